@@ -12,7 +12,7 @@ use Rattle.std.specs.declared.result.Result.{Result}
 use Rattle.std.specs.declared.result.Result.the-variants.{Ok, Err}
 use Rattle.layouts.specs.declared.fault.LineFault.{LineFault}
 use Rattle.layouts.specs.declared.fault.LineFault.the-variants.{Other}
-use Rattle.layouts.specs.Pieces.{matched, pieceAt, unquoted, endAt}
+use Rattle.layouts.specs.Pieces.{matched, pieceAt, before, endAt}
 
 matched-none : (s : List ℕ) → matched s [] ≡ 0
 matched-none [] = refl
@@ -40,15 +40,16 @@ piece-differs s i p k n e h m =
 pub piece-stands : (s : List ℕ) (i : ℕ) (p : List ℕ) (k : ℕ) → k ≡ i + length p → matched (drop i s) p ≡ length p → Ok k ≡ pieceAt s i p
 piece-stands s i p k e m = ap Ok e ∙ sym (ap (λ b. cond b (Ok (i + length p)) (Err (Other (i + matched (drop i s) p)))) (eq-eqb _ _ m))
 
--- one byte more before a quote mark
-pub quote-more : (s : List ℕ) (k : ℕ) → k < length s → (getD s k 0 ≡ 34 → ⊥) → unquoted (drop k s) ≡ suc (unquoted (drop (k + 1) s))
-quote-more s k h e = at-drop-more unquoted s k 0 h ∙ ap (λ b. cond b 0 (suc (unquoted (drop (k + 1) s)))) (ne-eqb _ 34 e)
+-- one byte more before a byte b
+module _ (b : ℕ) (s : List ℕ) (k : ℕ) where
+  pub before-more : k < length s → (getD s k 0 ≡ b → ⊥) → before b (drop k s) ≡ suc (before b (drop (k + 1) s))
+  before-more h e = at-drop-more (before b) s k 0 h ∙ ap (λ t. cond t 0 (suc (before b (drop (k + 1) s)))) (ne-eqb _ b e)
 
-pub quote-here : (s : List ℕ) (k : ℕ) → k < length s → getD s k 0 ≡ 34 → unquoted (drop k s) ≡ 0
-quote-here s k h e = at-drop-more unquoted s k 0 h ∙ ap (λ b. cond b 0 (suc (unquoted (drop (k + 1) s)))) (eq-eqb _ 34 e)
+  pub before-here : k < length s → getD s k 0 ≡ b → before b (drop k s) ≡ 0
+  before-here h e = at-drop-more (before b) s k 0 h ∙ ap (λ t. cond t 0 (suc (before b (drop (k + 1) s)))) (eq-eqb _ b e)
 
-pub quote-past : (s : List ℕ) (k : ℕ) → length s ≤ k → unquoted (drop k s) ≡ 0
-quote-past s k h = at-drop-all unquoted s k h
+  pub before-past : length s ≤ k → before b (drop k s) ≡ 0
+  before-past h = at-drop-all (before b) s k h
 
 matched-short : (s p : List ℕ) → matched s p ≤ length s
 matched-short [] [] = omega arith

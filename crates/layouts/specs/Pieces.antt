@@ -27,10 +27,14 @@ matched (x ∷ xs) (p ∷ ps) = cond (eqb x p) (suc (matched xs ps)) 0
 abbrev pub pieceAt : List ℕ → ℕ → List ℕ → Result ℕ LineFault
 pieceAt s i p = cond (eqb (matched (drop i s) p) (length p)) (Ok (i + length p)) (Err (Other (i + matched (drop i s) p)))
 
+-- how many bytes stand before the first byte b
+abbrev pub before : ℕ → List ℕ → ℕ
+before b [] = 0
+before b (x ∷ xs) = cond (eqb x b) 0 (suc (before b xs))
+
 -- how many bytes stand before the first quote mark, byte 34
 abbrev pub unquoted : List ℕ → ℕ
-unquoted [] = 0
-unquoted (x ∷ xs) = cond (eqb x 34) 0 (suc (unquoted xs))
+unquoted xs = before 34 xs
 
 -- the end of the line at the place i
 abbrev pub endAt : List ℕ → ℕ → Result ℕ LineFault

@@ -5,7 +5,7 @@ use crate::fault::LineFault;
 use crate::fault::LineFaultFromNumberFault;
 use crate::number::Number;
 use crate::number::read_number;
-use crate::pieces::quote_from;
+use crate::pieces::byte_from;
 use crate::pieces::read_piece;
 
 // An entry of the line of names, and where the next one starts, if any.
@@ -40,7 +40,7 @@ pub fn read_item<'a>(line: &'a [u8], at: usize) -> Result<NameItem<'a>, LineFaul
 {
     let number = read_number(line, at)?;
     let start = read_piece(line, number.after, b"=\"")?;
-    let quote = quote_from(line, start);
+    let quote = byte_from(line, start, b'"');
     let at = read_piece(line, quote, b"\"")?;
     let next = read_next(line, at)?;
     Ok(NameItem {

@@ -4,7 +4,7 @@ ghost use Rattle.layouts.specs.Printed.{ReadsAsWritten};
 pub mod fault;
 pub mod labels;
 pub mod number;
-mod pieces;
+pub mod pieces;
 pub mod transitions;
 
 // A line reads as a content exactly if it is the printed form of that content, in each of the four layouts.

@@ -2,7 +2,7 @@
 ghost use mathlib.Core.Path.{_≡_};
 ghost use Prim.Native.Nat.{_+_};
 ghost use lib.ListN.{drop};
-ghost use Rattle.layouts.specs.Pieces.{pieceAt, unquoted, endAt};
+ghost use Rattle.layouts.specs.Pieces.{pieceAt, before, endAt};
 use crate::fault::LineFault;
 
 // Reads the piece at `at`, and gives the place after it.
@@ -19,12 +19,12 @@ pub(crate) fn read_piece(line: &[u8], at: usize, piece: &[u8]) -> Result<usize, 
     Ok(end)
 }
 
-// The place of the first quote mark from `at` on, or where the line ends.
-pub(crate) fn quote_from(line: &[u8], at: usize) -> usize
-    ensures { λ r. ⌜ r ≡ at + unquoted (drop at (now (line .entry))) ⌝ }
+// The place of the first byte `wanted` from `at` on, or where the text ends.
+pub fn byte_from(text: &[u8], at: usize, wanted: u8) -> usize
+    ensures { λ r. ⌜ r ≡ at + before wanted (drop at (now (text .entry))) ⌝ }
 {
     let mut end = at;
-    while end < line.len() && line[end] != b'"' {
+    while end < text.len() && text[end] != wanted {
         end += 1;
     }
     end

@@ -4,7 +4,7 @@ ghost use Rattle.layouts.specs.Layouts.{headerOf, transitionOf, seenArrow};
 use crate::fault::LineFault;
 use crate::fault::LineFaultFromNumberFault;
 use crate::number::read_number;
-use crate::pieces::quote_from;
+use crate::pieces::byte_from;
 use crate::pieces::read_end;
 use crate::pieces::read_piece;
 
@@ -50,7 +50,7 @@ pub fn read_transition<'a>(line: &'a [u8]) -> Result<TransitionLine<'a>, LineFau
     let at = read_piece(line, 0, b"(")?;
     let source = read_number(line, at)?;
     let start = read_piece(line, source.after, b", \"")?;
-    let quote = quote_from(line, start);
+    let quote = byte_from(line, start, b'"');
     let at = read_piece(line, quote, b"\", ")?;
     let target = read_number(line, at)?;
     let at = read_piece(line, target.after, b")")?;
