@@ -1,0 +1,2 @@
+// Words of a text, their names, and the tables that names are kept in.
+pub mod words;
