@@ -1,2 +1,3 @@
 // Words of a text, their names, and the tables that names are kept in.
+pub mod names;
 pub mod words;
