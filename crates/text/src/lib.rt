@@ -1,3 +1,4 @@
 // Words of a text, their names, and the tables that names are kept in.
+pub mod lookup;
 pub mod names;
 pub mod words;
