@@ -1,7 +1,7 @@
 -- The last of a list that passes a test.
 use mathlib.Core.Path.{_≡_, refl, sym, ap, subst, _∙_}
 use mathlib.Core.Bool.{Bool, true, false, cond}
-use mathlib.Core.List.{List, [], _∷_}
+use mathlib.Core.List.{List, [], _∷_, _++_}
 use mathlib.Core.Logic.{⊎-elim}
 use Prim.Native.Nat.{ℕ, zero, suc, _+_, _<_, _≤_}
 use native.Mathlib.Nat.{zero-add, add-zero, suc-add, le-of-suc-le-suc}
@@ -11,7 +11,8 @@ use Rattle.std.specs.shelf.Maps.{nth}
 use Rattle.std.specs.declared.option.Option.{Option}
 use Rattle.std.specs.declared.option.Option.the-variants.{Some, None}
 use Rattle.std.proofs.shelf.Lists.{at-drop-more}
-use Rattle.std.proofs.shelf.Tests.{cases-order, both-ways}
+use Rattle.std.proofs.shelf.Maps.{nth-past}
+use Rattle.std.proofs.shelf.Tests.{cases-order, cases-lt, both-ways}
 use Rattle.text.specs.Lookup.{orFront, latest, PassesAt, Highest, Nowhere, FindsHighest}
 
 -- nothing is not something
@@ -60,7 +61,7 @@ module _ {X : Type 0} (p : X → Bool) where
       above zero l w = absurd (omega arith)
       above (suc k) l w = h k w
 
-  found : (xs : List X) (i : ℕ) → latest p xs ≡ Some i → Highest p xs i
+  pub found : (xs : List X) (i : ℕ) → latest p xs ≡ Some i → Highest p xs i
   found [] i e = none-some i e
   found (x ∷ xs) i e = by (latest p xs) refl (p x) refl (found xs)
     where
@@ -89,6 +90,27 @@ module _ {X : Type 0} (p : X → Bool) where
       by : (o : Option ℕ) → latest p xs ≡ o → latest p xs ≡ None
       by (Some j) e = absurd (h j (found xs j e .here))
       by None e = e
+
+  -- what is found is in the list
+  pub within : (xs : List X) (i : ℕ) → latest p xs ≡ Some i → i < length xs
+  within xs i e =
+      let h = found xs i e .here in
+      ⊎-elim (λ lt. lt) (λ le. none-some (h .0) (sym (nth-past xs i le) ∙ h .1 .0)) (cases-lt i (length xs))
+
+  -- one more at the end
+  pub push-passed : (xs : List X) (y : X) → p y ≡ true → latest p (xs ++ (y ∷ [])) ≡ Some (length xs)
+  push-passed [] y e = ap (λ t. orFront t None) e
+  push-passed (x ∷ xs) y e = ap (orFront (p x)) (push-passed xs y e)
+
+  pub push-failed : (xs : List X) (y : X) → p y ≡ false → latest p (xs ++ (y ∷ [])) ≡ latest p xs
+  push-failed [] y e = ap (λ t. orFront t None) e
+  push-failed (x ∷ xs) y e = ap (orFront (p x)) (push-failed xs y e)
+
+-- nothing at the front and nothing in the rest
+pub none-parts : (b : Bool) (o : Option ℕ) → orFront b o ≡ None → (b ≡ false) × (o ≡ None)
+none-parts b (Some i) e = none-some (suc i) (sym e)
+none-parts true None e = none-some 0 (sym e)
+none-parts false None e = (refl, refl)
 
 pub finds-highest : (X : Type 0) → FindsHighest X
 finds-highest X = record { found = found; finds = finds; missed = missed; misses = misses }

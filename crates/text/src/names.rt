@@ -1,8 +1,9 @@
 // Names: words that may name something, each kept as three numbers.
 ghost use mathlib.Core.Path.{_≡_};
+ghost use mathlib.Core.List.{[]};
 ghost use Prim.Native.Nat.{_≤_};
 ghost use lib.ListN.{getD, drop};
-ghost use Rattle.text.specs.Names.{packed, named, sameName, partOf, byteOf, lengthOf, ReadsBack, TellsWords, TellsNames};
+ghost use Rattle.text.specs.Names.{packed, nameOf, named, sameName, partOf, byteOf, lengthOf, ReadsBack, TellsWords, TellsNames};
 use crate::words::WORD_LIMIT;
 use crate::words::is_name;
 
@@ -34,6 +35,17 @@ fn eight_at(bytes: &[u8], start: usize) -> u64
 }
 
 impl Name {
+    // No name: all bytes 0, for places that hold no name yet.
+    pub fn blank() -> Name
+        ensures { λ r. ⌜ r ≡ nameOf [] ⌝ }
+    {
+        Name {
+            first: 0,
+            second: 0,
+            third: 0,
+        }
+    }
+
     // The name of the bytes, if they may be a name.
     pub fn new(bytes: &[u8]) -> Option<Name>
         ensures { λ r. ⌜ r ≡ named (now (bytes .entry)) ⌝ }
