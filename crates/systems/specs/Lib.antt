@@ -3,3 +3,4 @@ pub mod Meaning
 pub mod Law
 pub mod Tabled
 pub mod TabledLaw
+pub mod Listing

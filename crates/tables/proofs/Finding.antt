@@ -5,16 +5,18 @@ use mathlib.Core.List.{List, [], _∷_, map}
 use Prim.Native.Nat.{ℕ, zero, suc, min, _+_, _-_, _<_, _≤_}
 use denote.Ref.{now}
 use native.Mathlib.Omega.{arith}
-use lib.ListN.{length, getD, take, length-take}
+use lib.ListN.{length, getD, take, length-take, length-map}
 use Rattle.std.specs.shelf.Maps.{nth}
 use Rattle.std.specs.declared.option.Option.{Option}
 use Rattle.std.specs.declared.option.Option.the-variants.{Some, None}
 use Rattle.std.proofs.shelf.Maps.{nth-past}
 use Rattle.systems.specs.Limits.{maxMoves}
-use Rattle.systems.specs.Tabled.{counts, counting}
+use Rattle.systems.specs.Meaning.{moveCount}
+use Rattle.systems.specs.Listing.{countingIn}
+use Rattle.systems.specs.Tabled.{counts, counting, tabledTransitions}
 use Rattle.systems.specs.declared.transition.Transition.{Transition}
 use Rattle.systems.proofs.Kept.{nth-take, nth-kept, passing-yes, passing-kept, dense-rank, dense-passes}
-use Rattle.tables.specs.Spans.{nowhere, countingIn, SpanOf}
+use Rattle.tables.specs.Spans.{nowhere, SpanOf}
 use Rattle.tables.specs.declared.span.Span.{Span}
 use Rattle.tables.specs.declared.table.Table.{Table}
 
@@ -32,6 +34,10 @@ getD-none f (y ∷ xs) (suc i) d e = getD-none f xs i d e
 -- what a table keeps of a span that was read from it
 pub span-read : (t : Table) (q : ℕ) (s : Span) → s ≡ getD (t .spans) q nowhere → SpanOf (t .shape .states) (t .shape .moves) (now (t .records)) q s
 span-read t q s e = subst (SpanOf (t .shape .states) (t .shape .moves) (now (t .records)) q) (sym e) (t .spanned q)
+
+-- its count is the number of moves
+pub count-shown : (t : Table) (q : ℕ) (s : Span) → s ≡ getD (t .spans) q nowhere → s .count ≡ moveCount (tabledTransitions (t .shape .states) (t .shape .initial) (t .shape .moves) (now (t .records))) q
+count-shown t q s e = simp (length-map, length-take) (span-read t q s e .4)
 
 module _ (states read : ℕ) (records : List Transition) (q : ℕ) (s : Span) (o : SpanOf states read records q s) where
   abbrev shown : List Transition

@@ -8,12 +8,14 @@ use native.Mathlib.Omega.{arith}
 use lib.Dec.{eqb, ltb}
 use lib.ListN.{length, getD, set, take, replicate}
 use Rattle.std.proofs.shelf.Lists.{getD-set-same, getD-set-other, take-all}
-use Rattle.std.proofs.shelf.Tests.{cond-true, cond-false, and-from, and-left, and-right, lt-ltb, le-ltb, eq-eqb, ne-eqb, cases-lt, cases-eq}
+use Rattle.std.proofs.shelf.Tests.{cond-true, cond-false, and-from, and-left, lt-ltb, le-ltb, eq-eqb, ne-eqb, cases-lt, cases-eq}
 use Rattle.systems.specs.Limits.{maxMoves}
+use Rattle.systems.specs.Listing.{countingIn}
 use Rattle.systems.specs.Tabled.{counts, counting}
 use Rattle.systems.specs.declared.transition.Transition.{Transition}
+use Rattle.systems.proofs.Listed.{counts-nowhere}
 use Rattle.systems.proofs.Kept.{passing-yes, passing-no}
-use Rattle.tables.specs.Spans.{nowhere, grown, countingIn, SpanOf, Spanned}
+use Rattle.tables.specs.Spans.{nowhere, grown, SpanOf, Spanned}
 use Rattle.tables.specs.declared.span.Span.{Span}
 
 same-read : {X : Type 0} (n i : ℕ) (x : X) → getD (replicate n x) i x ≡ x
@@ -94,8 +96,4 @@ module _ (states k : ℕ) (records : List Transition) (spans : List Span) (d : T
   -- any other leaves each span as it is
   pub spanned-more-no : (r : Transition) → r ≡ getD records k d → (states ≤ r .source) ⊎ (states ≤ r .target) → Spanned states (k + 1) records spans
   spanned-more-no r is out q =
-      let fails : counts states q r ≡ false = ⊎-elim
-      (λ le. and-left (eqb (r .source) q && ltb (r .source) states) (ltb (r .target) states) (and-right (eqb (r .source) q) (ltb (r .source) states) (le-ltb (r .source) states le)))
-      (λ le. and-right (eqb (r .source) q && ltb (r .source) states) (ltb (r .target) states) (le-ltb (r .target) states le))
-      out in
-      span-more-no states k records q (getD spans q nowhere) d h (ap (counts states q) (sym is) ∙ fails) (o q)
+      span-more-no states k records q (getD spans q nowhere) d h (ap (counts states q) (sym is) ∙ counts-nowhere states q r out) (o q)

@@ -4,9 +4,9 @@ use mathlib.Core.Bool.{cond}
 use mathlib.Core.List.{List}
 use Prim.Native.Nat.{ℕ, min, _+_, _≤_}
 use lib.Dec.{eqb, ltb}
-use lib.ListN.{length, getD, take}
+use lib.ListN.{length, getD}
 use Rattle.systems.specs.Limits.{maxMoves}
-use Rattle.systems.specs.Tabled.{counting}
+use Rattle.systems.specs.Listing.{countingIn}
 use Rattle.systems.specs.declared.transition.Transition.{Transition}
 use Rattle.tables.specs.declared.span.Span.{Span}
 
@@ -20,10 +20,6 @@ grown s place =
     cond (ltb (s .count) maxMoves)
     (record { begin = cond (eqb (s .count) 0) place (s .begin); end = place + 1; count = s .count + 1 })
     s
-
--- how many of the first n records count at the state q
-abbrev pub countingIn : (states : ℕ) → List Transition → (q n : ℕ) → ℕ
-countingIn states records q n = length (counting states q (take n records))
 
 -- the span of the state q over the first `read` records: it lies among them, none that counts stands before it,
 -- its count is of those in front of its end, and that is as many as there are, or 1,024

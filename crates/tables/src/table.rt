@@ -3,7 +3,8 @@ ghost use denote.Ref.{now};
 ghost use lib.ListN.{length, getD, take};
 ghost use Rattle.std.specs.shelf.Maps.{nth};
 ghost use Rattle.systems.specs.Limits.{maxStates, maxMoves};
-ghost use Rattle.systems.specs.Tabled.{counts, counting, tabled, tabledPropositions};
+ghost use Rattle.systems.specs.Meaning.{moveCount, eventsAt, targetAt};
+ghost use Rattle.systems.specs.Tabled.{counts, counting, tabled, tabledTransitions, tabledPropositions};
 ghost use Rattle.systems.specs.TabledLaw.{tabled-lawful};
 ghost use Rattle.tables.specs.Spans.{nowhere, Spanned};
 use crate::span::Span;
@@ -48,9 +49,10 @@ impl<'a> Table<'a> {
         r.source == q && r.source < states && r.target < states
     }
 
-    // Where the records of the state `q` lie.
+    // Where the records of the state `q` lie, and how many of them are moves.
     fn span(&self, q: u16) -> Span
-        ensures { λ r. ⌜ r ≡ getD (now (self .entry) .spans) q nowhere ⌝ }
+        ensures kept { λ r. ⌜ r ≡ getD (now (self .entry) .spans) q nowhere ⌝ }
+        ensures count { λ r. ⌜ r .count ≡ moveCount (tabledTransitions (now (self .entry) .shape .states) (now (self .entry) .shape .initial) (now (self .entry) .shape .moves) (now (now (self .entry) .records))) q ⌝ }
     {
         if (q as usize) < MAX_STATES {
             self.spans[q as usize]
@@ -91,6 +93,21 @@ impl<'a> Table<'a> {
         }
     }
 
+    // The move `i` of the state `q`, and one without events to the initial state where there is no such move.
+    fn move_at(&self, q: u16, i: usize) -> Transition
+        ensures events { λ r. ⌜ r .events ≡ eventsAt (tabledTransitions (now (self .entry) .shape .states) (now (self .entry) .shape .initial) (now (self .entry) .shape .moves) (now (now (self .entry) .records))) q i ⌝ }
+        ensures target { λ r. ⌜ r .target ≡ targetAt (tabledTransitions (now (self .entry) .shape .states) (now (self .entry) .shape .initial) (now (self .entry) .shape .moves) (now (now (self .entry) .records))) q i ⌝ }
+    {
+        match self.record_at(q, i) {
+            Some(r) => r,
+            None => Transition {
+                source: q,
+                events: 0,
+                target: self.shape.initial(),
+            },
+        }
+    }
+
     // The set of the propositions of the state `q`.
     fn set(&self, q: u16) -> u64
         ensures { λ r. ⌜ r ≡ tabledPropositions (now (self .entry) .shape .states) (now (now (self .entry) .sets)) q ⌝ }
@@ -121,17 +138,11 @@ pub impl<'a> System for Table<'a> as TableSystem {
     }
 
     fn events(&self, q: u16, i: usize) -> u64 {
-        match self.record_at(q, i) {
-            Some(r) => r.events,
-            None => 0,
-        }
+        self.move_at(q, i).events
     }
 
     fn target(&self, q: u16, i: usize) -> u16 {
-        match self.record_at(q, i) {
-            Some(r) => r.target,
-            None => self.shape.initial(),
-        }
+        self.move_at(q, i).target
     }
 
     fn holds(&self, q: u16, p: u8) -> bool {

@@ -1,7 +1,7 @@
 use mathlib.Core.Path.{_≡_}
 use Prim.Native.Nat.{_≤_}
 use denote.Ref.{now}
-use Rattle.tables.specs.Spans.{countingIn}
+use Rattle.systems.specs.Listing.{countingIn}
 use Rattle.tables.proofs.table.Table.search.Given as given
 
 abbrev pub Inv-loop-k : given.InvT-loop-k
