@@ -1,0 +1,6 @@
+pub mod Limits
+pub mod Meaning
+pub mod Law
+pub mod Tabled
+pub mod TabledLaw
+pub mod Listing

@@ -1,0 +1,4 @@
+pub mod limits;
+pub mod listing;
+pub mod system;
+pub mod transition;

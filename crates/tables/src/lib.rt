@@ -1,0 +1,3 @@
+mod span;
+mod spanned;
+pub mod table;
