@@ -51,6 +51,14 @@ module _ (b : ℕ) (s : List ℕ) (k : ℕ) where
   pub before-past : length s ≤ k → before b (drop k s) ≡ 0
   before-past h = at-drop-all (before b) s k h
 
+pub before-short : (b : ℕ) (xs : List ℕ) → before b xs ≤ length xs
+before-short b [] = omega arith
+before-short b (x ∷ xs) = go (eqb x b) (before-short b xs)
+  where
+    go : (t : Bool) → before b xs ≤ length xs → cond t 0 (suc (before b xs)) ≤ suc (length xs)
+    go true h = omega arith
+    go false h = omega arith
+
 matched-short : (s p : List ℕ) → matched s p ≤ length s
 matched-short [] [] = omega arith
 matched-short (x ∷ xs) [] = omega arith

@@ -19,7 +19,7 @@ use Rattle.layouts.specs.Numbers.{digits, numeral, numberAt, Stands}
 use Rattle.layouts.specs.Pieces.{andThen, matched, pieceAt, unquoted, endAt, inLine, lineNumberAt}
 use Rattle.layouts.specs.Layouts.{between, quoteFrom}
 use Rattle.layouts.proofs.Digits.{numerals}
-use Rattle.layouts.proofs.Matching.{Piece, piece-was}
+use Rattle.layouts.proofs.Matching.{Piece, piece-was, before-short}
 
 -- a chain that ended well began well
 pub begun : {X Y E : Type 0} (r : Result X E) (f : X → Result Y E) (y : Y) → andThen r f ≡ Ok y → (G : Type 0) → ((x : X) → r ≡ Ok x → f x ≡ Ok y → G) → G
@@ -96,14 +96,6 @@ pub left-none : (s p : List ℕ) (i : ℕ) → drop i s ≡ p → 0 < length p �
 left-none s p i e h = omega (arith, length-drop i s, ap length e)
 
 -- a quoted text: the bytes up to the next quote mark
-unquoted-short : (xs : List ℕ) → unquoted xs ≤ length xs
-unquoted-short [] = omega arith
-unquoted-short (x ∷ xs) = go (eqb x 34) (unquoted-short xs)
-  where
-    go : (b : Bool) → unquoted xs ≤ length xs → cond b 0 (suc (unquoted xs)) ≤ suc (length xs)
-    go true h = omega arith
-    go false h = omega arith
-
 unquoted-front : (xs : List ℕ) → unquoted (take (unquoted xs) xs) ≡ unquoted xs
 unquoted-front [] = refl
 unquoted-front (x ∷ xs) = go (eqb x 34) refl (unquoted-front xs)
@@ -132,7 +124,7 @@ module _ (s : List ℕ) (i : ℕ) where
   pub quote-free : unquoted (between s i (quoteFrom s i)) ≡ length (between s i (quoteFrom s i))
   quote-free =
       ap (λ n. unquoted (take n (drop i s))) far ∙ unquoted-front (drop i s) ∙
-      sym (ap (λ n. length (take n (drop i s))) far ∙ length-take-le (unquoted (drop i s)) (drop i s) (unquoted-short (drop i s)))
+      sym (ap (λ n. length (take n (drop i s))) far ∙ length-take-le (unquoted (drop i s)) (drop i s) (before-short 34 (drop i s)))
 
   module _ (l t : List ℕ) (free : unquoted l ≡ length l) (e : drop i s ≡ l ++ (34 ∷ t)) where
     pub quote-at : quoteFrom s i ≡ i + length l
