@@ -1,0 +1,4 @@
+pub mod Pieces
+pub mod Folds
+pub mod Accepting
+pub mod Marking

@@ -1,0 +1,4 @@
+pub mod Labels
+pub mod Labelled
+pub mod NamesLine
+pub mod MarksLine
