@@ -12,6 +12,7 @@ use Rattle.std.proofs.shelf.Tests.{lt-ltb, le-ltb, ltb-true, ltb-false, cond-tr
 use Rattle.std.proofs.shelf.Lists.{drop-more, drop-all}
 use Rattle.std.specs.shelf.Lists.{All, joined}
 use Rattle.layouts.specs.Pieces.{before}
+use Rattle.layouts.proofs.Matching.{before-short}
 use Rattle.std.specs.declared.option.Option.{Option}
 use Rattle.std.specs.declared.option.Option.the-variants.{Some, None}
 use Rattle.files.specs.Lines.{Row, lineAt, lead, rowsFrom, rowsOf, lineOf, endOf, printedRow, Whole, Follow, RowsTile}
@@ -62,7 +63,7 @@ follows at (x ∷ xs) = go (eqb x 10) (follows (suc at) xs)
 pub rows-tile : RowsTile
 rows-tile file = (tiles 0 file, wholes 0 file, follows 0 file)
 
-abbrev Found : List ℕ → ℕ → Row × ℕ
+abbrev pub Found : List ℕ → ℕ → Row × ℕ
 Found file at = (record { start = at; text = lineOf (drop at file); ended = ltb (endOf file at) (length file) }, endOf file at + cond (ltb (endOf file at) (length file)) 1 0)
 
 pub no-line : (file : List ℕ) (at : ℕ) → None ≡ lineAt file at → [] ≡ lineOf (drop at file)
@@ -168,3 +169,20 @@ rows-none file at = go (ltb at (length file)) refl
     go : (b : Bool) → ltb at (length file) ≡ b → None ≡ cond b (Some (Found file at)) None → rowsFrom at (drop at file) ≡ []
     go true e h = absurd (let z : _≡_ {A = ℕ} 0 1 = cc in omega arith)
     go false e h = ap (rowsFrom at) (drop-all at file (ltb-false at (length file) e))
+
+-- the lines of a file from the place `at` on
+abbrev pub rowsPast : List ℕ → ℕ → List Row
+rowsPast file at = rowsFrom at (drop at file)
+
+-- the place after a line lies behind its start, within the file
+pub line-onward : (file : List ℕ) (at : ℕ) (r : Row) (after : ℕ) → lineAt file at ≡ Some (r, after) → (at < after) × (after ≤ length file)
+line-onward file at r after = go (ltb at (length file)) refl
+  where
+    bound : at < length file → (e : Bool) → ltb (endOf file at) (length file) ≡ e → (at < endOf file at + cond e 1 0) × (endOf file at + cond e 1 0 ≤ length file)
+    bound h true e = let l = ltb-true (endOf file at) (length file) e in (omega arith, omega arith)
+    bound h false e = let l = ltb-false (endOf file at) (length file) e in (omega arith, omega (arith, before-short 10 (drop at file), length-drop at file))
+    go : (b : Bool) → ltb at (length file) ≡ b → cond b (Some (Found file at)) None ≡ Some (r, after) → (at < after) × (after ≤ length file)
+    go false e h = absurd (let z : _≡_ {A = ℕ} 0 1 = cc in omega arith)
+    go true e h =
+        let same : Found file at ≡ (r, after) = cc in
+        subst (λ k. (at < k) × (k ≤ length file)) (ap (λ p. p .1) same) (bound (ltb-true at (length file) e) (ltb (endOf file at) (length file)) refl)

@@ -1,0 +1,4 @@
+pub mod Scanning
+pub mod Joining
+pub mod Chain
+pub mod Written

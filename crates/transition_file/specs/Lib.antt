@@ -1,0 +1,5 @@
+pub mod Asking
+pub mod Sets
+pub mod TransitionPart
+pub mod Found
+pub mod Records
