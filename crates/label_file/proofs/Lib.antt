@@ -1,0 +1,4 @@
+pub mod Naming
+pub mod Marking
+pub mod Sets
+pub mod Chain
