@@ -53,6 +53,7 @@ module _ (known : List Name) (it : Item) where
         over = ⊎-elim
             (λ lt. absurd (let s : leb (length (joinAll known (n ∷ []))) namesLimit ≡ true = le-leb _ _ (omega (arith, ap length (joined h), length-push known n)) in let z : _≡_ {A = ℕ} 0 1 = cc in omega arith))
             (λ le. le-ltb (length known) namesLimit le) (cases-lt (length known) namesLimit)
+
         off : (a : Bool) → cond (a && false) (newName known (named (it .text))) None ≡ None
         off true = refl
         off false = refl
@@ -60,5 +61,5 @@ module _ (known : List Name) (it : Item) where
     pub new-name : it .number ≡ length known → isSome (numberOf known n) ≡ false → true ≡ leb (length (joinAll known (n ∷ []))) namesLimit → Some (joinAll known (n ∷ [])) ≡ accepted (Some known) it
     new-name same h f =
         let room : length known < namesLimit = ⊎-elim (λ lt. lt)
-          (λ le. absurd (let s : leb (length (joinAll known (n ∷ []))) namesLimit ≡ false = lt-leb _ _ (omega (arith, ap length (joined h), length-push known n)) in let z : _≡_ {A = ℕ} 0 1 = cc in omega arith)) (cases-lt (length known) namesLimit) in
+        (λ le. absurd (let s : leb (length (joinAll known (n ∷ []))) namesLimit ≡ false = lt-leb _ _ (omega (arith, ap length (joined h), length-push known n)) in let z : _≡_ {A = ℕ} 0 1 = cc in omega arith)) (cases-lt (length known) namesLimit) in
         ap Some (joined h) ∙ sym ((λ j. By (eq-eqb _ _ same j) (lt-ltb _ _ room j) (sym e j)) ∙ ap (λ t. cond t None (Some (known ++ (n ∷ [])))) h)

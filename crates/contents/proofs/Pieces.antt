@@ -27,7 +27,7 @@ piece-ends b [] h = absurd (omega arith)
 piece-ends b (x ∷ xs) h = go (eqb x b) refl h (piece-ends b xs)
   where
     go : (t : Bool) → eqb x b ≡ t → cond t 0 (suc (before b xs)) < suc (length xs) → (before b xs < length xs → pieces b xs ≡ take (before b xs) xs ∷ pieces b (drop (suc (before b xs)) xs)) →
-      pieces b (x ∷ xs) ≡ take (before b (x ∷ xs)) (x ∷ xs) ∷ pieces b (drop (suc (before b (x ∷ xs))) (x ∷ xs))
+        pieces b (x ∷ xs) ≡ take (before b (x ∷ xs)) (x ∷ xs) ∷ pieces b (drop (suc (before b (x ∷ xs))) (x ∷ xs))
     go true e l ih = (λ j. cond (e j) ([] ∷ pieces b xs) (onFirst x (pieces b xs))) ∙ (λ j. take (cond (sym e j) 0 (suc (before b xs))) (x ∷ xs) ∷ pieces b (drop (suc (cond (sym e j) 0 (suc (before b xs)))) (x ∷ xs)))
     go false e l ih = (λ j. cond (e j) ([] ∷ pieces b xs) (onFirst x (pieces b xs))) ∙ ap (onFirst x) (ih (omega arith)) ∙ (λ j. take (cond (sym e j) 0 (suc (before b xs))) (x ∷ xs) ∷ pieces b (drop (suc (cond (sym e j) 0 (suc (before b xs)))) (x ∷ xs)))
 
@@ -118,8 +118,9 @@ module _ (s : List ℕ) (at count : ℕ) (names : List Name) (f : Sofar s at cou
           whole = length-set names count n ∙ f .whole;
           sizes = f .sizes ∙ ap (λ ps. count + length ps) (more-pieces lt) ∙ (omega arith);
           told = f .told ∙ ap (before-all (take count names)) (ap allNamed (more-pieces lt) ∙ ap (λ o. with-name o (allNamed (pieces 59 (drop (end + 1) s)))) e) ∙
-            before-all-assoc (take count names) (n ∷ []) (allNamed (pieces 59 (drop (end + 1) s))) ∙
-            ap (λ ns. before-all ns (allNamed (pieces 59 (drop (end + 1) s)))) (sym (take-more-set names count n room)) }
+              before-all-assoc (take count names) (n ∷ []) (allNamed (pieces 59 (drop (end + 1) s))) ∙
+              ap (λ ns. before-all ns (allNamed (pieces 59 (drop (end + 1) s)))) (sym (take-more-set names count n room));
+        }
 
 -- what labelNames says in each case
 module _ (l : List ℕ) where

@@ -2,7 +2,6 @@
 ghost use mathlib.Core.Path.{_≡_};
 ghost use Rattle.std.specs.Options.{mapped};
 ghost use Rattle.contents.specs.MarksLine.{addMark, markedOf};
-
 use layouts::fault::LineFault;
 use layouts::labels::read_listed;
 use layouts::labels::read_state;

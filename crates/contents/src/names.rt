@@ -3,7 +3,6 @@ ghost use mathlib.Core.Path.{_≡_};
 ghost use Rattle.std.specs.Options.{mapped};
 ghost use Rattle.text.specs.Held.{held};
 ghost use Rattle.contents.specs.NamesLine.{accepted, itemOf, namesOf, seenNames, isCalled, wellBegun};
-
 use layouts::fault::LineFault;
 use layouts::labels::NameItem;
 use layouts::labels::read_item;
@@ -23,7 +22,11 @@ fn accept(found: Option<Names>, item: NameItem<'_>) -> Option<Names>
         return None;
     }
     let mut longer = names;
-    if longer.join_all(&[name]) { Some(longer) } else { None }
+    if longer.join_all(&[name]) {
+        Some(longer)
+    } else {
+        None
+    }
 }
 
 // Reads the whole line; the names are there where each entry is lawful.

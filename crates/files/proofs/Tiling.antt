@@ -181,6 +181,7 @@ line-onward file at r after = go (ltb at (length file)) refl
     bound : at < length file → (e : Bool) → ltb (endOf file at) (length file) ≡ e → (at < endOf file at + cond e 1 0) × (endOf file at + cond e 1 0 ≤ length file)
     bound h true e = let l = ltb-true (endOf file at) (length file) e in (omega arith, omega arith)
     bound h false e = let l = ltb-false (endOf file at) (length file) e in (omega arith, omega (arith, before-short 10 (drop at file), length-drop at file))
+
     go : (b : Bool) → ltb at (length file) ≡ b → cond b (Some (Found file at)) None ≡ Some (r, after) → (at < after) × (after ≤ length file)
     go false e h = absurd (let z : _≡_ {A = ℕ} 0 1 = cc in omega arith)
     go true e h =

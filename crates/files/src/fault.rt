@@ -3,7 +3,6 @@ ghost use mathlib.Core.Path.{_≡_};
 ghost use lib.ListN.{drop};
 ghost use Rattle.files.specs.Lines.{lineOf};
 ghost use Rattle.files.specs.Refusals.{refusal, faultLine};
-
 use crate::lines::line_at;
 
 #[derive(Clone, Copy)]

@@ -1,7 +1,6 @@
 // The lines of a file. A line ends with byte 10; bytes after the last byte 10 are a line too, one that is not ended.
 ghost use mathlib.Core.Path.{_≡_};
 ghost use Rattle.files.specs.Lines.{lineAt, seenLine, RowsTile};
-
 use layouts::pieces::byte_from;
 
 // The byte that ends a line.
@@ -36,5 +35,4 @@ pub fn line_at<'a>(file: &'a [u8], at: usize) -> Option<Line<'a>>
 // The rows of a file are its bytes, cut behind each byte 10.
 pub fn rows_tile_the_file()
     ensures { λ _. ⌜ RowsTile ⌝ }
-{
-}
+{}

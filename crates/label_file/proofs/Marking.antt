@@ -36,8 +36,8 @@ risen ms l [] = refl
 risen ms l (n ∷ ns) = go (leb (l .least) n && ltb n (length ms)) refl (risen ms (record { least = n + 1; set = bitOr (l .set) (getD ms n 0) }) ns)
   where
     go : (b : Bool) → (leb (l .least) n && ltb n (length ms)) ≡ b →
-      isSome (mapped (λ k. k .set) (folded (addMark ms) (Some (record { least = n + 1; set = bitOr (l .set) (getD ms n 0) })) ns)) ≡ rising (n + 1) (length ms) ns →
-      isSome (mapped (λ k. k .set) (folded (addMark ms) (cond b (Some (record { least = n + 1; set = bitOr (l .set) (getD ms n 0) })) None) ns)) ≡ (b && rising (suc n) (length ms) ns)
+        isSome (mapped (λ k. k .set) (folded (addMark ms) (Some (record { least = n + 1; set = bitOr (l .set) (getD ms n 0) })) ns)) ≡ rising (n + 1) (length ms) ns →
+        isSome (mapped (λ k. k .set) (folded (addMark ms) (cond b (Some (record { least = n + 1; set = bitOr (l .set) (getD ms n 0) })) None) ns)) ≡ (b && rising (suc n) (length ms) ns)
     go true e ih = ih ∙ ap (λ k. rising k (length ms) ns) (add-one n)
     go false e ih = ap (λ o. isSome (mapped (λ k. k .set) o)) (lost ms ns)
 

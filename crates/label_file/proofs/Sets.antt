@@ -39,13 +39,15 @@ pub clear-more : (i : ℕ) (before now : List ℕ) → Changed (λ _ _. 0) i bef
 clear-more i before now f h = record {
   long = length-set now i 0 ∙ f .long;
   below = λ q lt within. ⊎-elim (λ e. ap (λ k. getD (set now i 0) k 0) e ∙ getD-set-same now i 0 0 h) (λ ne. getD-set-other now i q 0 0 ne ∙ f .below q (omega (arith, ne)) within) (same q i);
-  above = λ q le. let ne : q ≢ i = λ e. omega arith in getD-set-other now i q 0 0 ne ∙ f .above q (omega arith) }
+  above = λ q le. let ne : q ≢ i = λ e. omega arith in getD-set-other now i q 0 0 ne ∙ f .above q (omega arith);
+}
 
 pub clear-all : (n i : ℕ) (before now : List ℕ) → Changed (λ _ _. 0) i before now → min n (length before) ≤ i → i ≤ n → Changed (λ _ _. 0) n before now
 clear-all n i before now f h l = record {
   long = f .long;
   below = λ q lt within. f .below q (omega arith) within;
-  above = λ q le. f .above q (omega arith) }
+  above = λ q le. f .above q (omega arith);
+}
 
 -- what a line adds
 module _ (ms : List ℕ) (line : List ℕ) (m : Marked) (e : Ok m ≡ markedOf ms line) where
@@ -61,17 +63,19 @@ module _ (ms : List ℕ) (line : List ℕ) (m : Marked) (e : Ok m ≡ markedOf m
     mark-here lt within = record {
       long = length-set sets (m .state) _;
       below = λ q h w. ⊎-elim
-        (λ e2. ap (λ k. getD (set sets (m .state) (bitOr (getD sets (m .state) 0) t)) k 0) e2 ∙ getD-set-same sets (m .state) _ 0 within ∙ ap (λ k. bitOr (getD sets k 0) t) (sym e2) ∙
+          (λ e2. ap (λ k. getD (set sets (m .state) (bitOr (getD sets (m .state) 0) t)) k 0) e2 ∙ getD-set-same sets (m .state) _ 0 within ∙ ap (λ k. bitOr (getD sets k 0) t) (sym e2) ∙
           sym (adds q (getD sets q 0) ∙ ap (λ b. cond b (addSet (getD sets q 0) (m .set)) (getD sets q 0)) (eq-eqb (m .state) q (sym e2)) ∙ ap (addSet (getD sets q 0)) some))
-        (λ ne. getD-set-other sets (m .state) q _ 0 ne ∙ sym (adds q (getD sets q 0) ∙ ap (λ b. cond b (addSet (getD sets q 0) (m .set)) (getD sets q 0)) (ne-eqb (m .state) q (λ z. ne (sym z)))))
-        (same q (m .state));
-      above = λ q le. let ne : q ≢ m .state = λ z. omega arith in getD-set-other sets (m .state) q _ 0 ne }
+          (λ ne. getD-set-other sets (m .state) q _ 0 ne ∙ sym (adds q (getD sets q 0) ∙ ap (λ b. cond b (addSet (getD sets q 0) (m .set)) (getD sets q 0)) (ne-eqb (m .state) q (λ z. ne (sym z)))))
+          (same q (m .state));
+      above = λ q le. let ne : q ≢ m .state = λ z. omega arith in getD-set-other sets (m .state) q _ 0 ne;
+    }
 
     pub mark-nowhere : (m .state < n → m .state < length sets → ⊥) → Changed (λ q s. addMarks ms q s (marksOf line)) n sets sets
     mark-nowhere out = record {
       long = refl;
       below = λ q h w. sym (adds q (getD sets q 0) ∙ ap (λ b. cond b (addSet (getD sets q 0) (m .set)) (getD sets q 0)) (ne-eqb (m .state) q (λ z. out (omega arith) (omega arith))));
-      above = λ q le. refl }
+      above = λ q le. refl;
+    }
 
 -- the lines so far were marked, from some sets on
 pub record Marking (ms : List ℕ) (n : ℕ) (file : List ℕ) (first : ℕ) (before now : List ℕ) (at : ℕ) : Type 0 where
@@ -87,12 +91,14 @@ module _ (ms : List ℕ) (n : ℕ) (file : List ℕ) (first : ℕ) (before now :
   marking-more r after then e c = record {
     long = c .long ∙ f .long;
     below = λ q h w. ap (λ s. folded (addRow ms q) s (rowsPast file after)) (c .below q h (omega (arith, f .long))) ∙ sym (ap (folded (addRow ms q) (getD now q 0)) (rows-at file at r after (sym e))) ∙ f .below q h w;
-    above = λ q le. c .above q le ∙ f .above q le }
+    above = λ q le. c .above q le ∙ f .above q le;
+  }
 
   pub marking-all : (start : List ℕ) → None ≡ lineAt file at → Changed (λ _ _. 0) n start before → first ≡ bodyStart file → Changed (λ q _. labelsAt ms (body file) q) n start now
   marking-all start e c s = record {
     long = f .long ∙ c .long;
     below = λ q h w.
-      ap (folded (addRow ms q) (getD now q 0)) (sym (rows-none file at e)) ∙ f .below q h (omega (arith, c .long)) ∙
-      ap (λ z. folded (addRow ms q) z (rowsPast file first)) (c .below q h w) ∙ ap (folded (addRow ms q) 0) (ap (rowsPast file) s ∙ body-rows file);
-    above = λ q le. f .above q le ∙ c .above q le }
+        ap (folded (addRow ms q) (getD now q 0)) (sym (rows-none file at e)) ∙ f .below q h (omega (arith, c .long)) ∙
+        ap (λ z. folded (addRow ms q) z (rowsPast file first)) (c .below q h w) ∙ ap (folded (addRow ms q) 0) (ap (rowsPast file) s ∙ body-rows file);
+    above = λ q le. f .above q le ∙ c .above q le;
+  }

@@ -4,7 +4,6 @@ ghost use Rattle.std.specs.Options.{mapped};
 ghost use Rattle.files.specs.Lines.{rowsOf};
 ghost use Rattle.text.specs.Held.{held};
 ghost use Rattle.label_file.specs.LabelPart.{namesRow};
-
 use contents::names::are_well_begun;
 use contents::names::read_names;
 use files::lines::line_at;
@@ -22,5 +21,9 @@ pub(crate) fn first_names(file: &[u8]) -> Option<Names>
         return None;
     };
     let names = found?;
-    if are_well_begun(&names) { Some(names) } else { None }
+    if are_well_begun(&names) {
+        Some(names)
+    } else {
+        None
+    }
 }

@@ -2,7 +2,6 @@
 ghost use mathlib.Core.Path.{_≡_};
 ghost use Rattle.text.specs.Held.{held};
 ghost use Rattle.label_file.specs.Found.{ReadAs};
-
 use crate::first::first_names;
 use crate::scans::mislabelled_line;
 use files::fault::Fault;
@@ -36,7 +35,10 @@ pub fn read_labels(file: &[u8], states: u16, known: &Names) -> Result<LabelsRead
     }
     let mut propositions = *known;
     if propositions.join_all(names.names()) {
-        Ok(LabelsRead { names, propositions })
+        Ok(LabelsRead {
+            names,
+            propositions,
+        })
     } else {
         Err(Fault::TooManyPropositions)
     }

@@ -4,7 +4,6 @@ ghost use lib.ListN.{length, drop};
 ghost use Rattle.files.specs.Lines.{rowsFrom};
 ghost use Rattle.label_file.specs.LabelPart.{lawfulState, mislabelled};
 ghost use Rattle.label_file.specs.Found.{rowOf};
-
 use contents::marks::read_marks;
 use files::lines::Line;
 use files::lines::line_at;
@@ -27,7 +26,12 @@ fn lawful_state(line: Line<'_>, states: u16, least: u16, masks: &[u64]) -> Optio
 }
 
 // Where the first line at fault starts, from `from` on.
-pub(crate) fn mislabelled_line(file: &[u8], from: usize, states: u16, masks: &[u64]) -> Option<usize>
+pub(crate) fn mislabelled_line(
+    file: &[u8],
+    from: usize,
+    states: u16,
+    masks: &[u64],
+) -> Option<usize>
     ensures { λ r. ⌜ r ≡ mislabelled states (length (now (masks .entry))) 0 (rowsFrom from (drop from (now (file .entry)))) ⌝ }
 {
     let mut at = from;

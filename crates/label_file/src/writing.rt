@@ -9,7 +9,6 @@ ghost use Rattle.text.specs.Held.{held};
 ghost use Rattle.transition_file.specs.TransitionPart.{body};
 ghost use Rattle.label_file.specs.LabelPart.{masks, addMarks, addRow, labelsAt};
 ghost use Rattle.label_file.specs.Found.{Changed};
-
 use contents::marks::read_marks;
 use files::lines::line_at;
 use text::numbering::NAMES_LIMIT;

@@ -1,14 +1,19 @@
+// What a load found out about a table, and the load itself, the only maker of it.
 ghost use mathlib.Core.Path.{_≡_};
-ghost use Prim.Native.Nat.{ℕ, _<_, _≤_};
+ghost use Prim.Native.Nat.{_<_, _≤_};
+ghost use Rattle.systems.specs.Limits.{maxStates};
 
-// What a load found out about a table: how many states it has, which is the initial one, and how many records hold its transitions.
-// Only a load makes one.
+mod loading;
+
+pub use loading::load;
+
+// How many states a table has, which is the initial one, and how many records hold its transitions. Only a load makes one.
 #[derive(Clone, Copy)]
 pub struct Shape {
     states: u16,
     initial: u16,
     moves: usize,
-    ghost few: { states ≤ 256 },
+    ghost few: { states ≤ maxStates },
     ghost starts: { initial < states },
 }
 

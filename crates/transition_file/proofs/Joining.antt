@@ -62,5 +62,5 @@ module _ (file : List ℕ) (at : ℕ) (known : List Name) where
     pub line-joined : (ns : List Name) → Some ns ≡ joinIfFew known (namesInLine (r .text)) → joinIfFew known (namesInRows (rowsPast file at)) ≡ joinIfFew ns (namesInRows (rowsPast file after))
     line-joined ns h =
         let same : joinAll known (namesInRows (rowsPast file at)) ≡ joinAll ns (namesInRows (rowsPast file after)) =
-          split ∙ ap (λ ms. joinAll ms (namesInRows (rowsPast file after))) (sym (few-if known (namesInLine (r .text)) ns h .0)) in
+        split ∙ ap (λ ms. joinAll ms (namesInRows (rowsPast file after))) (sym (few-if known (namesInLine (r .text)) ns h .0)) in
         ap (λ ms. cond (numbered ms) (Some ms) None) same

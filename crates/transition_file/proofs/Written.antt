@@ -56,7 +56,8 @@ module _ (file : List ℕ) (known : List Name) where
   pub begin : (before : List Transition) (from : ℕ) → from ≡ bodyStart file → Sofar file known before before 0 from
   begin before from e = record {
     done = sym (written-none before);
-    left = ap (map (λ r. lineRecord known (r .text))) (ap (rowsPast file) e ∙ body-rows file) ∙ sym (map-map (λ r. arrowIn (r .text)) (recordIn known) (body file)) }
+    left = ap (map (λ r. lineRecord known (r .text))) (ap (rowsPast file) e ∙ body-rows file) ∙ sym (map-map (λ r. arrowIn (r .text)) (recordIn known) (body file));
+  }
 
   module _ (before now : List Transition) (k at : ℕ) (f : Sofar file known before now k at) where
     pub no-more : None ≡ lineAt file at → now ≡ written (map (recordIn known) (arrowsOf file)) before
@@ -70,4 +71,5 @@ module _ (file : List ℕ) (known : List Name) where
         let here = sym (f .left) ∙ ap (map (λ r. lineRecord known (r .text))) (rows-at file at r after (sym e)) in
         record {
           done = ap (λ xs. set xs k (lineRecord known (r .text))) (f .done) ∙ written-more _ before k _ _ h here ∙ ap (λ n. written (take n (map (recordIn known) (arrowsOf file))) before) (sym (add-one k));
-          left = sym (drop-next _ k _ _ here) ∙ ap (λ n. drop n (map (recordIn known) (arrowsOf file))) (sym (add-one k)) }
+          left = sym (drop-next _ k _ _ here) ∙ ap (λ n. drop n (map (recordIn known) (arrowsOf file))) (sym (add-one k));
+        }

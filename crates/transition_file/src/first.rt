@@ -2,7 +2,6 @@
 ghost use mathlib.Core.Path.{_≡_};
 ghost use Rattle.files.specs.Lines.{rowsOf};
 ghost use Rattle.transition_file.specs.TransitionPart.{headerRow, bodyStart};
-
 use files::lines::line_at;
 use layouts::transitions::Header;
 use layouts::transitions::read_header;

@@ -6,7 +6,6 @@ ghost use Prim.Native.Nat.{_<_};
 ghost use Rattle.layouts.specs.Layouts.{Arrow};
 ghost use Rattle.transition_file.specs.TransitionPart.{numbersFit, lawfulLabel, joinsStates};
 ghost use Rattle.transition_file.specs.Found.{arrowOf};
-
 use contents::label::reading::read_label;
 use layouts::transitions::Header;
 use layouts::transitions::TransitionLine;
@@ -21,7 +20,10 @@ const MAX_TRANSITIONS: u16 = 1024;
 pub(crate) fn numbers_fit(h: &Header) -> bool
     ensures { λ r. ⌜ r ≡ numbersFit (now (h .entry)) ⌝ }
 {
-    1 <= h.states && h.states <= MAX_STATES && h.transitions <= MAX_TRANSITIONS && h.initial < h.states
+    1 <= h.states
+        && h.states <= MAX_STATES
+        && h.transitions <= MAX_TRANSITIONS
+        && h.initial < h.states
 }
 
 // A question that is put to every transition of the file.

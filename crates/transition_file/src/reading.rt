@@ -2,7 +2,6 @@
 ghost use mathlib.Core.Path.{_≡_};
 ghost use Rattle.text.specs.Held.{held};
 ghost use Rattle.transition_file.specs.Found.{ReadAs};
-
 use crate::first::body_start;
 use crate::first::first_header;
 use crate::questions::LabelLawful;
@@ -47,7 +46,9 @@ pub fn read_transitions(file: &[u8], known: &Names) -> Result<TransitionsRead, F
     if let Some(start) = first_failing(file, from, &LabelLawful) {
         return Err(Fault::TransitionLabel { start });
     }
-    let below = StatesBelow { states: header.states };
+    let below = StatesBelow {
+        states: header.states,
+    };
     if let Some(start) = first_failing(file, from, &below) {
         return Err(Fault::TransitionStates { start });
     }

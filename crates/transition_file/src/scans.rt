@@ -5,7 +5,6 @@ ghost use Rattle.std.specs.Options.{mapped};
 ghost use Rattle.files.specs.Lines.{rowsFrom};
 ghost use Rattle.text.specs.Held.{held};
 ghost use Rattle.transition_file.specs.TransitionPart.{misplaced, failing, onArrow, joinIfFew, namesInLine, namesInRows};
-
 use crate::questions::Question;
 use contents::label::reading::read_label;
 use files::lines::line_at;
@@ -61,7 +60,11 @@ fn join_line(known: Names, line: &[u8]) -> Option<Names>
         return Some(known);
     };
     let mut names = known;
-    if names.join_all(label.names()) { Some(names) } else { None }
+    if names.join_all(label.names()) {
+        Some(names)
+    } else {
+        None
+    }
 }
 
 // The names with those in the labels from `from` on behind them; nothing if there are too many.

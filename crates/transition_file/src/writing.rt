@@ -7,7 +7,6 @@ ghost use Rattle.text.specs.Held.{held};
 ghost use Rattle.transition_file.specs.Sets.{bitIn, setIn};
 ghost use Rattle.transition_file.specs.TransitionPart.{arrowsOf, namesIn};
 ghost use Rattle.transition_file.specs.Records.{recordIn, lineRecord, written};
-
 use crate::first::body_start;
 use contents::label::reading::read_label;
 use files::lines::line_at;

@@ -3,7 +3,6 @@ ghost use mathlib.Core.Path.{_≡_};
 ghost use Rattle.std.specs.Options.{mapped};
 ghost use Rattle.contents.specs.Labels.{labelNames};
 ghost use Rattle.contents.specs.Labelled.{labelled};
-
 use super::LABEL_LIMIT;
 use super::Label;
 use layouts::pieces::byte_from;
@@ -32,7 +31,10 @@ pub fn read_label(label: &[u8]) -> Option<Label>
         let end = byte_from(label, at, b';');
         names[count] = Name::new(&label[at..end])?;
         if end == label.len() {
-            return Some(Label { names, count: count + 1 });
+            return Some(Label {
+                names,
+                count: count + 1,
+            });
         }
         at = end + 1;
     }

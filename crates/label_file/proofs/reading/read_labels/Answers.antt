@@ -19,10 +19,11 @@ pub returns-then-join-all : need.returns-then-join-all
 returns-then-join-all c =
     let names = c .in-Some .names in
     let known = held (c .args .known .now) in
-    let fits = subst (λ ns. true ≡ leb (length (joinAll known ns)) namesLimit) (c .names .ensures) (c .if-join-all .ensures tt .fits) in
-    (chain-good (c .args .file .now) (c .args .states) known (held names) (c .body-start-from .result) _ (c .if-file-gt-FILE-LIMIT .left) (c .in-Some .ensures tt) (c .body-start-from .ensures)
-     (c .in-rest-mislabelled-line .ensures tt) (simp (length-take, length-replicate) (omega (arith, c .len .ensures, held-length names, names .within))) fits,
-     c .if-join-all .ensures tt .joined ∙ ap (joinAll known) (c .names .ensures))
+    let fits = subst (λ ns. true ≡ leb (length (joinAll known ns)) namesLimit) (c .names .ensures) (c .if-join-all .ensures tt .fits) in (
+      chain-good (c .args .file .now) (c .args .states) known (held names) (c .body-start-from .result) _ (c .if-file-gt-FILE-LIMIT .left) (c .in-Some .ensures tt) (c .body-start-from .ensures)
+          (c .in-rest-mislabelled-line .ensures tt) (simp (length-take, length-replicate) (omega (arith, c .len .ensures, held-length names, names .within))) fits,
+      c .if-join-all .ensures tt .joined ∙ ap (joinAll known) (c .names .ensures),
+    )
 
 pub returns-else-join-all : need.returns-else-join-all
 returns-else-join-all c =

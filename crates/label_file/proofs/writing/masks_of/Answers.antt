@@ -20,10 +20,11 @@ loop-place-again c =
     let items = c .names-name-items .ensures in
     let d : Name = record { first = 0; second = 0; third = 0 } in
     let inside : k < length ns = omega (arith, c .loop-place-test .taken, ap length items) in
-    let room : k < length (c .loop-place .all) = omega (arith, c .loop-place .inv .1, held-length t, t .within) in
-    (take-more-set (c .loop-place .all) k (c .bit-of .result) room ∙ ap (λ xs. xs ++ (c .bit-of .result ∷ [])) (c .loop-place .inv .0) ∙
-     ap (λ b. map f (take k ns) ++ (b ∷ [])) (c .bit-of .ensures ∙ ap (λ xs. f (getD xs k d)) items) ∙ sym (map-more f ns k d inside),
-     length-set _ _ _ ∙ c .loop-place .inv .1)
+    let room : k < length (c .loop-place .all) = omega (arith, c .loop-place .inv .1, held-length t, t .within) in (
+      take-more-set (c .loop-place .all) k (c .bit-of .result) room ∙ ap (λ xs. xs ++ (c .bit-of .result ∷ [])) (c .loop-place .inv .0) ∙
+          ap (λ b. map f (take k ns) ++ (b ∷ [])) (c .bit-of .ensures ∙ ap (λ xs. f (getD xs k d)) items) ∙ sym (map-more f ns k d inside),
+      length-set _ _ _ ∙ c .loop-place .inv .1,
+    )
 
 pub returns : need.returns
 returns c =

@@ -15,8 +15,9 @@ returns-then-not-passes g c =
     let l = c .in-Some .line in
     let row : Row = record { start = l .start; text = l .text .now; ended = l .ended } in
     let said : onArrow p row ≡ c .match-read-transition .passes = elim (c .match-read-transition .came) [
-      in-Ok w ↦ ap (asked p) (sym (w .in-Ok .ensures tt)) ∙ sym (w .ask-passes .ensures) ∙ sym (w .passes-is)
-    | in-Err w ↦ ap (asked p) (sym (w .in-Err .ensures tt)) ∙ sym (w .passes-is) ] in
+      | in-Ok w ↦ ap (asked p) (sym (w .in-Ok .ensures tt)) ∙ sym (w .ask-passes .ensures) ∙ sym (w .passes-is)
+      | in-Err w ↦ ap (asked p) (sym (w .in-Err .ensures tt)) ∙ sym (w .passes-is)
+    ] in
     sym (c .loop-line .inv ∙ failing-here (onArrow p) (c .args .file .now) (c .loop-line .at) row _ (c .in-Some .ensures tt) (said ∙ c .if-not-passes .taken))
 
 pub loop-line-again : need.loop-line-again
@@ -25,8 +26,9 @@ loop-line-again g c =
     let l = c .in-Some .line in
     let row : Row = record { start = l .start; text = l .text .now; ended = l .ended } in
     let said : onArrow p row ≡ c .match-read-transition .passes = elim (c .match-read-transition .came) [
-      in-Ok w ↦ ap (asked p) (sym (w .in-Ok .ensures tt)) ∙ sym (w .ask-passes .ensures) ∙ sym (w .passes-is)
-    | in-Err w ↦ ap (asked p) (sym (w .in-Err .ensures tt)) ∙ sym (w .passes-is) ] in
+      | in-Ok w ↦ ap (asked p) (sym (w .in-Ok .ensures tt)) ∙ sym (w .ask-passes .ensures) ∙ sym (w .passes-is)
+      | in-Err w ↦ ap (asked p) (sym (w .in-Err .ensures tt)) ∙ sym (w .passes-is)
+    ] in
     c .loop-line .inv ∙ failing-later (onArrow p) (c .args .file .now) (c .loop-line .at) row _ (c .in-Some .ensures tt) (said ∙ c .if-not-passes .left)
 
 pub loop-line-less : need.loop-line-less

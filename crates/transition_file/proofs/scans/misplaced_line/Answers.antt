@@ -23,8 +23,9 @@ returns-then-not-line c =
     let l = c .in-Some .line in
     let row : Row = record { start = l .start; text = l .text .now; ended = l .ended } in
     let bad : isArrow row ≡ false = elim (c .then-not-line .came) [
-      then-not-line·by·then-not-line w ↦ open-row row (w .if-not-line .taken)
-    | then-not-line·by·else-not-line·then-is-err w ↦ other-row row (w .read-transition .result) (w .read-transition .ensures) (w .if-not-line .left) (sym (w .is-err .ensures .value) ∙ w .if-is-err .taken) ] in
+      | then-not-line·by·then-not-line w ↦ open-row row (w .if-not-line .taken)
+      | then-not-line·by·else-not-line·then-is-err w ↦ other-row row (w .read-transition .result) (w .read-transition .ensures) (w .if-not-line .left) (sym (w .is-err .ensures .value) ∙ w .if-is-err .taken)
+    ] in
     sym (c .loop-turn .inv ∙ bad-line (c .args .file .now) (c .loop-turn .at) n m t row _ (c .in-Some .ensures tt) bad)
 
 pub loop-turn-again : need.loop-turn-again
