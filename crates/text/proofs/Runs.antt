@@ -137,15 +137,23 @@ goes-by s i h e =
     goes-colon s i h (colon-outer x colon) colon ∙ leads-is s (i + 1) ∙ and-parts _ _ (both .1) .1)
     (or-cases (isInner x) _ e)
 
+pub word-whole : (s : List ℕ) → isWord s ≡ true → wordLen s ≡ length s
+word-whole s e =
+    let rest = and-parts (startsWord s) (eqb (wordLen s) (length s) && leb (length s) wordLimit) e .1 in
+    eqb-true (wordLen s) (length s) (and-parts (eqb (wordLen s) (length s)) (leb (length s) wordLimit) rest .0)
+
 pub by-bytes : WordsByBytes
 by-bytes s = (to, from)
   where
     to : isWord s ≡ true → WordBytes s
     to e =
         let a = and-parts (startsWord s) (eqb (wordLen s) (length s) && leb (length s) wordLimit) e in
-        let b = and-parts (eqb (wordLen s) (length s)) (leb (length s) wordLimit) (a .1) in
-        let long : wordLen s ≡ length s = eqb-true (wordLen s) (length s) (b .0) in
-        record { starts = a .0; short = leb-true (length s) wordLimit (b .1); stands = stands s (a .0) (λ k h. goes-on s k (omega (arith, long))) }
+        let few = and-parts (eqb (wordLen s) (length s)) (leb (length s) wordLimit) (a .1) .1 in
+        record {
+          starts = a .0;
+          short = leb-true (length s) wordLimit few;
+          stands = stands s (a .0) (λ k h. goes-on s k (omega (arith, word-whole s e)));
+        }
 
     from : WordBytes s → isWord s ≡ true
     from w =
