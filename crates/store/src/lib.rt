@@ -77,7 +77,7 @@ impl<'a, T: Copy> Store<'a, T> {
     pub fn count(&self) -> usize
         ensures { λ r. ⌜ r ≡ length (held (now (self .entry) .count) (now (now (self .entry) .places))) ⌝ }
     {
-        self.count
+        self.held().len()
     }
 }
 

@@ -39,7 +39,7 @@ impl Names {
     pub fn len(&self) -> usize
         ensures { λ r. ⌜ r ≡ length (held (now (self .entry))) ⌝ }
     {
-        self.count
+        self.names().len()
     }
 
     // The names in the order of their numbers.
