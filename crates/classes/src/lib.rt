@@ -25,7 +25,9 @@ pub enum Class {
     Other,
 }
 
+// The class of each byte, at the byte's place. A static, which is read in place; a const would be copied by each reader.
 static CLASSES: [Class; 256] = [
+    // 0 to 15
     Class::Other,
     Class::Other,
     Class::Other,
@@ -42,6 +44,7 @@ static CLASSES: [Class; 256] = [
     Class::Other,
     Class::Other,
     Class::Other,
+    // 16 to 31
     Class::Other,
     Class::Other,
     Class::Other,
@@ -58,6 +61,7 @@ static CLASSES: [Class; 256] = [
     Class::Other,
     Class::Other,
     Class::Other,
+    // 32 to 47
     Class::Space,
     Class::Other,
     Class::Other,
@@ -74,6 +78,7 @@ static CLASSES: [Class; 256] = [
     Class::Other,
     Class::Dot,
     Class::Other,
+    // 48 to 63
     Class::Digit,
     Class::Digit,
     Class::Digit,
@@ -90,6 +95,7 @@ static CLASSES: [Class; 256] = [
     Class::Other,
     Class::CloseAngle,
     Class::Other,
+    // 64 to 79
     Class::Other,
     Class::Letter,
     Class::Letter,
@@ -106,6 +112,7 @@ static CLASSES: [Class; 256] = [
     Class::Letter,
     Class::Letter,
     Class::Letter,
+    // 80 to 95
     Class::Letter,
     Class::Letter,
     Class::Letter,
@@ -122,6 +129,7 @@ static CLASSES: [Class; 256] = [
     Class::CloseSquare,
     Class::Other,
     Class::Underscore,
+    // 96 to 111
     Class::Other,
     Class::Letter,
     Class::Letter,
@@ -138,6 +146,7 @@ static CLASSES: [Class; 256] = [
     Class::Letter,
     Class::Letter,
     Class::Letter,
+    // 112 to 127
     Class::Letter,
     Class::Letter,
     Class::Letter,
@@ -154,6 +163,7 @@ static CLASSES: [Class; 256] = [
     Class::CloseCurly,
     Class::Other,
     Class::Other,
+    // 128 to 143
     Class::Other,
     Class::Other,
     Class::Other,
@@ -170,6 +180,7 @@ static CLASSES: [Class; 256] = [
     Class::Other,
     Class::Other,
     Class::Other,
+    // 144 to 159
     Class::Other,
     Class::Other,
     Class::Other,
@@ -186,6 +197,7 @@ static CLASSES: [Class; 256] = [
     Class::Other,
     Class::Other,
     Class::Other,
+    // 160 to 175
     Class::Other,
     Class::Other,
     Class::Other,
@@ -202,6 +214,7 @@ static CLASSES: [Class; 256] = [
     Class::Other,
     Class::Other,
     Class::Other,
+    // 176 to 191
     Class::Other,
     Class::Other,
     Class::Other,
@@ -218,6 +231,7 @@ static CLASSES: [Class; 256] = [
     Class::Other,
     Class::Other,
     Class::Other,
+    // 192 to 207
     Class::Other,
     Class::Other,
     Class::Other,
@@ -234,6 +248,7 @@ static CLASSES: [Class; 256] = [
     Class::Other,
     Class::Other,
     Class::Other,
+    // 208 to 223
     Class::Other,
     Class::Other,
     Class::Other,
@@ -250,6 +265,7 @@ static CLASSES: [Class; 256] = [
     Class::Other,
     Class::Other,
     Class::Other,
+    // 224 to 239
     Class::Other,
     Class::Other,
     Class::Other,
@@ -266,6 +282,7 @@ static CLASSES: [Class; 256] = [
     Class::Other,
     Class::Other,
     Class::Other,
+    // 240 to 255
     Class::Other,
     Class::Other,
     Class::Other,

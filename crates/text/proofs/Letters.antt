@@ -5,14 +5,15 @@ use mathlib.Core.List.{List, [], _∷_}
 use mathlib.Core.Bool.{Bool, true, false, cond, _&&_, _||_}
 use Prim.Native.Nat.{ℕ, zero, suc, _<_, _≤_}
 use native.Mathlib.Omega.{arith}
-use lib.Dec.{T, eqb, leb}
+use lib.Dec.{T, eqb}
 use lib.ListN.{length}
 use Rattle.std.specs.shelf.Lists.{All}
-use Rattle.std.proofs.shelf.Tests.{cases-lt, and-parts, or-cases, eqb-true, leb-true, false≢true, lt-leb, le-leb, ne-eqb}
+use Rattle.std.proofs.shelf.Tests.{cases-lt, and-parts, or-cases, eqb-true, false≢true, lt-leb, le-leb, ne-eqb}
 use Rattle.classes.specs.Bytes.{classRule}
 use Rattle.classes.specs.declared.Class.the-variants.{Letter, Underscore, Digit, Dot, Other}
 use Rattle.classes.specs.Table.{sameClass}
-use Rattle.text.specs.Words.{wordLimit, isInner, leads, goesOn, wordLen, startsWord, isWord}
+use Rattle.text.specs.Words.{wordLimit, isInner, leads, goesOn, wordLen, isWord}
+use Rattle.text.proofs.Runs.{word-whole, by-bytes}
 
 pub T-true : (b : Bool) → T b → b ≡ true
 T-true true t = refl
@@ -70,7 +71,7 @@ run-solid (x ∷ xs) e = by (goesOn (x ∷ xs)) refl (run-solid xs)
     by false g rest = absurd (omega (arith, ap (λ t. cond t (suc (wordLen xs)) 0) g))
 
 pub word-short : (v : List ℕ) → T (isWord v) → length v ≤ wordLimit
-word-short v t = leb-true (length v) wordLimit (and-parts (eqb (wordLen v) (length v)) (leb (length v) wordLimit) (and-parts (startsWord v) _ (T-true (isWord v) t) .1) .1)
+word-short v t = by-bytes v .0 (T-true (isWord v) t) .short
 
 pub word-solid : (v : List ℕ) → T (isWord v) → All Solid v
-word-solid v t = run-solid v (eqb-true (wordLen v) (length v) (and-parts (eqb (wordLen v) (length v)) (leb (length v) wordLimit) (and-parts (startsWord v) _ (T-true (isWord v) t) .1) .0))
+word-solid v t = run-solid v (word-whole v (T-true (isWord v) t))

@@ -4,13 +4,13 @@ use mathlib.Core.Bool.{Bool, true, false, cond}
 use mathlib.Core.List.{List, [], _∷_, _++_}
 use mathlib.Core.Logic.{⊎-elim}
 use Prim.Native.Nat.{ℕ, zero, suc, _+_, _<_, _≤_}
-use native.Mathlib.Nat.{zero-add, add-zero, suc-add, le-of-suc-le-suc}
+use native.Mathlib.Nat.{le-of-suc-le-suc}
 use native.Mathlib.Omega.{arith}
-use lib.ListN.{length, getD, drop}
+use lib.ListN.{length, getD, take}
 use Rattle.std.specs.shelf.Maps.{nth}
 use Rattle.std.specs.declared.option.Option.{Option}
 use Rattle.std.specs.declared.option.Option.the-variants.{Some, None}
-use Rattle.std.proofs.shelf.Lists.{at-drop-more}
+use Rattle.std.proofs.shelf.Lists.{take-more, length-take-le}
 use Rattle.std.proofs.shelf.Maps.{nth-past}
 use Rattle.std.proofs.shelf.Tests.{cases-order, cases-lt, both-ways}
 use Rattle.text.specs.Lookup.{orFront, latest, PassesAt, Highest, Nowhere, FindsHighest}
@@ -20,23 +20,6 @@ pub none-some : {X : Type 0} {C : Type 0} (x : X) → None ≡ Some x → C
 none-some x e = let z : _≡_ {A = ℕ} 0 1 = cc in absurd (omega arith)
 
 module _ {X : Type 0} (p : X → Bool) where
-  -- what is found past the first i is found
-  past : (xs : List X) (i j : ℕ) → latest p (drop i xs) ≡ Some j → latest p xs ≡ Some (i + j)
-  past xs zero j e = e ∙ ap Some (sym (zero-add j))
-  past [] (suc i) j e = none-some j e
-  past (x ∷ xs) (suc i) j e = ap (orFront (p x)) (past xs i j e) ∙ ap Some (sym (suc-add i j))
-
-  -- a search from the end, at the element x at i with nothing found past it
-  module _ (xs : List X) (i : ℕ) (x : X) (h : i < length xs) (read : x ≡ getD xs i x) (none : latest p (drop (i + 1) xs) ≡ None) where
-    at : latest p (drop i xs) ≡ orFront (p x) None
-    at = at-drop-more (latest p) xs i x h ∙ ap (λ y. orFront (p y) (latest p (drop (i + 1) xs))) (sym read) ∙ ap (orFront (p x)) none
-
-    pub latest-on : p x ≡ false → latest p (drop i xs) ≡ None
-    latest-on e = at ∙ ap (λ t. orFront t None) e
-
-    pub latest-here : p x ≡ true → latest p xs ≡ Some i
-    latest-here e = past xs i 0 (at ∙ ap (λ t. orFront t None) e) ∙ ap Some (add-zero i)
-
   missed : (xs : List X) → latest p xs ≡ None → Nowhere p xs
   missed [] e = λ k w. none-some (w .0) (w .1 .0)
   missed (x ∷ xs) e = by (latest p xs) refl (p x) refl (missed xs)
@@ -105,6 +88,17 @@ module _ {X : Type 0} (p : X → Bool) where
   pub push-failed : (xs : List X) (y : X) → p y ≡ false → latest p (xs ++ (y ∷ [])) ≡ latest p xs
   push-failed [] y e = ap (λ t. orFront t None) e
   push-failed (x ∷ xs) y e = ap (orFront (p x)) (push-failed xs y e)
+
+  -- a search from the end, at the element x at i, with nothing found past it
+  module _ (xs : List X) (i : ℕ) (x : X) (h : i < length xs) (read : x ≡ getD xs i x) where
+    up-to : latest p (take (i + 1) xs) ≡ latest p (take i xs ++ (x ∷ []))
+    up-to = ap (latest p) (take-more xs i x h) ∙ ap (λ y. latest p (take i xs ++ (y ∷ []))) (sym read)
+
+    pub latest-on : p x ≡ false → latest p (take (i + 1) xs) ≡ latest p (take i xs)
+    latest-on e = up-to ∙ push-failed (take i xs) x e
+
+    pub latest-here : p x ≡ true → latest p (take (i + 1) xs) ≡ Some i
+    latest-here e = up-to ∙ push-passed (take i xs) x e ∙ ap Some (length-take-le i xs (omega arith))
 
 -- nothing at the front and nothing in the rest
 pub none-parts : (b : Bool) (o : Option ℕ) → orFront b o ≡ None → (b ≡ false) × (o ≡ None)

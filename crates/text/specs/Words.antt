@@ -1,10 +1,11 @@
 -- Words of a text: which bytes they are made of, how far they reach, and which are reserved.
+use mathlib.Core.Path.{_≡_}
 use mathlib.Core.Bool.{Bool, true, false, not, _&&_, _||_, cond}
 use mathlib.Core.List.{List, [], _∷_}
-use Prim.Native.Nat.{ℕ, suc}
+use Prim.Native.Nat.{ℕ, suc, _+_, _-_, _<_, _≤_}
 use lib.Chars.{codes}
 use lib.Dec.{leb, eqb}
-use lib.ListN.{length}
+use lib.ListN.{length, getD, drop}
 use Rattle.classes.specs.Bytes.{classRule}
 use Rattle.classes.specs.Table.{sameClass}
 use Rattle.classes.specs.declared.Class.the-variants.{Letter, Digit, Underscore, Dot}
@@ -70,3 +71,26 @@ isReserved bytes = isOneOf reservedWords bytes
 -- a name is a word that is not reserved
 abbrev pub isName : List ℕ → Bool
 isName bytes = isWord bytes && not (isReserved bytes)
+
+-- what may stand at place i of a word: an inner byte, or a colon between two inner bytes
+abbrev pub mayStand : List ℕ → ℕ → Bool
+mayStand bytes i =
+    isInner (getD bytes i 0) || (eqb (getD bytes i 0) 58 && (isInner (getD bytes (i - 1) 0) && isInner (getD bytes (i + 1) 0)))
+
+-- a word, said of each of its bytes
+pub record WordBytes (bytes : List ℕ) : Type 0 where
+  pub starts : startsWord bytes ≡ true
+  pub short : length bytes ≤ wordLimit
+  pub stands : (i : ℕ) → i < length bytes → mayStand bytes i ≡ true
+
+-- the bytes are a word exactly if each of them may stand where it does
+abbrev pub WordsByBytes : Type 0
+WordsByBytes = (bytes : List ℕ) → (isWord bytes ≡ true → WordBytes bytes) × (WordBytes bytes → isWord bytes ≡ true)
+
+-- a word goes on at each place of its run, and no longer at the end of it
+abbrev pub LongestRuns : Type 0
+LongestRuns = (text : List ℕ) → ((k : ℕ) → k < wordLen text → goesOn (drop k text) ≡ true) × (goesOn (drop (wordLen text) text) ≡ false)
+
+-- the test of two lists of bytes passes exactly if they are equal
+abbrev pub SameIsEqual : Type 0
+SameIsEqual = (a b : List ℕ) → (same a b ≡ true → a ≡ b) × (a ≡ b → same a b ≡ true)

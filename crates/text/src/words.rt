@@ -1,7 +1,7 @@
 // Words: runs of letters, digits, `_` and `.`, and of `:` between two of these.
 ghost use mathlib.Core.Path.{_≡_};
 ghost use lib.ListN.{drop};
-ghost use Rattle.text.specs.Words.{isStart, isInner, leads, goesOn, wordLen, startsWord, isWord, same, isReserved, isName};
+ghost use Rattle.text.specs.Words.{isStart, isInner, leads, goesOn, wordLen, startsWord, isWord, same, isReserved, isName, WordsByBytes, LongestRuns, SameIsEqual};
 use classes::Class;
 use classes::class_of;
 
@@ -18,7 +18,7 @@ pub fn is_start(b: u8) -> bool
     }
 }
 
-// Whether the byte may stand anywhere in a word but at its start.
+// Whether the byte is one of those inside a word.
 pub fn is_inner(b: u8) -> bool
     ensures { λ r. ⌜ r ≡ isInner b ⌝ }
 {
@@ -115,4 +115,25 @@ pub fn is_name(bytes: &[u8]) -> bool
     ensures { λ r. ⌜ r ≡ isName (now (bytes .entry)) ⌝ }
 {
     is_word(bytes) && !is_reserved(bytes)
+}
+
+// The bytes are a word exactly if each of them may stand where it does.
+pub fn words_by_bytes() -> u8
+    ensures { λ _. ⌜ WordsByBytes ⌝ }
+{
+    0
+}
+
+// The run that `word_len` counts is as long as can be.
+pub fn runs_are_longest() -> u8
+    ensures { λ _. ⌜ LongestRuns ⌝ }
+{
+    0
+}
+
+// `same_bytes` passes exactly if the two are equal.
+pub fn same_is_equal() -> u8
+    ensures { λ _. ⌜ SameIsEqual ⌝ }
+{
+    0
 }

@@ -13,6 +13,17 @@ use crate::lookup::NameNamed;
 use crate::lookup::find;
 use crate::names::Name;
 
+// The name at `i`, if there is one.
+fn name_at(names: &[Name], i: usize) -> Option<Name>
+    ensures { λ r. ⌜ r ≡ nth (now (names .entry)) i ⌝ }
+{
+    if i < names.len() {
+        Some(names[i])
+    } else {
+        None
+    }
+}
+
 impl Names {
     // A table without names.
     pub fn new() -> Self
@@ -28,7 +39,7 @@ impl Names {
     pub fn len(&self) -> usize
         ensures { λ r. ⌜ r ≡ length (held (now (self .entry))) ⌝ }
     {
-        self.count
+        self.names().len()
     }
 
     // The names in the order of their numbers.
@@ -42,11 +53,7 @@ impl Names {
     pub fn get(&self, i: usize) -> Option<Name>
         ensures { λ r. ⌜ r ≡ nth (held (now (self .entry))) i ⌝ }
     {
-        if i < self.count {
-            Some(self.names[i])
-        } else {
-            None
-        }
+        name_at(self.names(), i)
     }
 
     // The number of the name.

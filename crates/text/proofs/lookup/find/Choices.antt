@@ -1,10 +1,12 @@
 use mathlib.Core.Path.{_≡_}
-use lib.ListN.{drop}
-use Rattle.std.specs.declared.option.Option.the-variants.{None}
+use mathlib.Core.Bool.{Bool}
+use lib.ListN.{take}
 use Rattle.text.specs.Lookup.{latest}
 use Rattle.text.specs.Names.{sameName}
 use Rattle.text.proofs.lookup.find.Given as given
 
--- nothing from i on is called so
+-- what is called so is among the first i
 abbrev pub Inv-loop-i : given.InvT-loop-i
-Inv-loop-i g l = latest (λ x. sameName (g .T·Named .called x) (l .name)) (drop (l .i) (l .records)) ≡ None
+Inv-loop-i g l =
+    let p : g .T .Denot → Bool = λ x. sameName (g .T·Named .called x) (l .name) in
+    latest p (take (l .i) (l .records)) ≡ latest p (l .records)

@@ -8,9 +8,6 @@ use Rattle.text.specs.Words.{same}
 use Rattle.text.proofs.Runs.{same-long, same-more, same-all}
 use Rattle.text.proofs.words.same_bytes.Needs as need
 
-pub loop-n-holds : need.loop-n-holds
-loop-n-holds c = refl
-
 pub loop-n-again : need.loop-n-again
 loop-n-again c =
     let a = c .args .a .now in
