@@ -1,5 +1,5 @@
 -- What rules show of a move, and the proof that they show what they say. Assumes nothing.
-use mathlib.Core.Path.{_≡_, refl, sym, ap, subst, _∙_}
+use mathlib.Core.Path.{_≡_, refl, sym, ap, _∙_}
 use mathlib.Core.Bool.{Bool, true, false, cond, _&&_, _||_}
 use mathlib.Core.List.{List, [], _∷_, map}
 use mathlib.Core.Logic.{⊎-elim}
@@ -10,12 +10,12 @@ use lib.Dec.{eqb}
 use lib.ListN.{length, getD, length-map}
 use Rattle.std.specs.shelf.Lists.{folded}
 use Rattle.std.proofs.shelf.Tests.{cond-false, and-parts, and-from, or-cases, or-left, or-right, eqb-true, eq-eqb, false≢true}
-use Rattle.systems.specs.Meaning.{Move, Transitions, missing, moveCount, moveAt, eventsAt, targetAt, member}
+use Rattle.systems.specs.Meaning.{Transitions, missing, moveCount, moveAt, eventsAt, targetAt, member}
 use Rattle.systems.specs.Law.{member-none}
 use Rattle.systems.proofs.Sets.{member-or, member-one}
 use Rattle.abstraction.specs.Rules.{blank}
 use Rattle.abstraction.specs.Abstracted.{withShown, shownBy, shownMove, abstractedTransitions}
-use Rattle.abstraction.specs.Showing.{Shows, Shown, ShowsExactly}
+use Rattle.abstraction.specs.Showing.{Shows, ShowsExactly}
 use Rattle.abstraction.specs.declared.rule.Rule.{Rule}
 
 or-false : (a : Bool) → (a || false) ≡ a

@@ -1,21 +1,20 @@
 -- A system keeps the law as a sheet shows it. Assumes nothing.
-use mathlib.Core.Path.{_≡_, refl, sym, ap, _∙_}
-use mathlib.Core.Bool.{cond}
+use mathlib.Core.Path.{ap}
 use mathlib.Core.List.{List, [], _∷_, map}
-use Prim.Native.Nat.{ℕ, _^_, _<_, _≤_}
+use Prim.Native.Nat.{ℕ, _^_, _<_}
 use native.Mathlib.Omega.{arith}
 use lib.Bits.{bitOr, or-lt}
-use lib.ListN.{length, take, getD, length-map, length-take}
+use lib.ListN.{length-map, length-take}
 use Rattle.std.specs.shelf.Lists.{All, folded}
 use Rattle.std.proofs.shelf.Bits.{pow-below}
-use Rattle.std.proofs.shelf.Elements.{all-map, all-weaker, all-from-getD}
+use Rattle.std.proofs.shelf.Elements.{all-map, all-from-getD}
 use Rattle.std.proofs.shelf.Lists.{getD-take}
 use Rattle.std.proofs.shelf.Tests.{cond-both}
 use Rattle.systems.specs.Limits.{maxEvents}
-use Rattle.systems.specs.Meaning.{Move, Meaning, LawfulTransitions, Lawful, member}
-use Rattle.abstraction.specs.Rules.{maxRules, blank, Small}
+use Rattle.systems.specs.Meaning.{Move, Meaning, Lawful, member}
+use Rattle.abstraction.specs.Rules.{blank, Small}
 use Rattle.abstraction.specs.Held.{held}
-use Rattle.abstraction.specs.Abstracted.{withShown, shownBy, shownMove, abstractedTransitions, abstracted}
+use Rattle.abstraction.specs.Abstracted.{withShown, shownBy, shownMove, abstracted}
 use Rattle.abstraction.specs.declared.rule.Rule.{Rule}
 use Rattle.abstraction.specs.declared.sheet.Sheet.{Sheet}
 

@@ -1,7 +1,6 @@
 -- A system of two states and one move. Assumes nothing.
-use mathlib.Core.Path.{_≡_, refl}
 use mathlib.Core.Bool.{cond}
-use mathlib.Core.List.{List, [], _∷_}
+use mathlib.Core.List.{[], _∷_}
 use Prim.Native.Nat.{ℕ, _%_, _^_, _<_, _≤_}
 use native.Mathlib.Omega.{arith}
 use lib.Dec.{eqb}
@@ -9,8 +8,8 @@ use lib.ListN.{length}
 use Rattle.std.specs.shelf.Lists.{All}
 use Rattle.std.proofs.shelf.Bits.{mod-below, pow-pos}
 use Rattle.std.proofs.shelf.Tests.{cond-both, cond-false, ne-eqb}
-use Rattle.systems.specs.Limits.{maxStates, maxMoves, maxEvents, maxPropositions}
-use Rattle.systems.specs.Meaning.{Move, Meaning, Lawful}
+use Rattle.systems.specs.Limits.{maxMoves, maxEvents, maxPropositions}
+use Rattle.systems.specs.Meaning.{Meaning, Lawful}
 
 -- one move leads from the state 0, which is the initial one, to the state 1, where the proposition 0 holds
 abbrev pub hop : (events : ℕ) → Meaning
