@@ -1,5 +1,5 @@
 -- What a table lists and what it leaves out. Assumes nothing.
-use mathlib.Core.Path.{_≡_, refl, sym, ap, subst, _∙_}
+use mathlib.Core.Path.{_≡_, refl, sym, ap, _∙_}
 use mathlib.Core.Bool.{Bool, true, false, cond, _&&_}
 use mathlib.Core.List.{List, [], _∷_, _++_, map}
 use mathlib.Core.Logic.{_⊎_, ⊎-elim}
@@ -9,16 +9,15 @@ use lib.Dec.{eqb, ltb}
 use lib.ListN.{length, getD, take, length-take, length-map}
 use Rattle.std.specs.shelf.Lists.{kept-by}
 use Rattle.std.specs.shelf.Maps.{nth}
-use Rattle.std.specs.declared.option.Option.the-variants.{Some, None}
-use Rattle.std.proofs.shelf.Lists.{getD-map, getD-take, getD-past, getD-default, take-take}
-use Rattle.std.proofs.shelf.Maps.{nth-getD, nth-past}
-use Rattle.std.proofs.shelf.Tests.{cond-both, cond-true, cond-false, and-left, and-right, le-ltb, ltb-true, cases-lt, true≢false}
+use Rattle.std.specs.declared.option.Option.the-variants.{Some}
+use Rattle.std.proofs.shelf.Lists.{getD-map, getD-take, getD-default, take-take}
+use Rattle.std.proofs.shelf.Tests.{cond-both, cond-true, cond-false, and-left, and-right, le-ltb, ltb-true}
 use Rattle.systems.specs.Limits.{maxMoves, maxPropositions}
-use Rattle.systems.specs.Meaning.{Transitions, Meaning, moveCount, moveAt, missing}
+use Rattle.systems.specs.Meaning.{moveCount, moveAt}
 use Rattle.systems.specs.Tabled.{counts, counting, moveOf, tabledTransitions, tabledPropositions, tabled}
-use Rattle.systems.specs.Listing.{countingIn, Lists, Recorded, Shown, Ignored, Unread, Listing}
+use Rattle.systems.specs.Listing.{Recorded, Shown, Ignored, Unread, Listing}
 use Rattle.systems.specs.declared.transition.Transition.{Transition}
-use Rattle.systems.proofs.Kept.{From, kept-from, nth-kept, passing-yes, passing-kept}
+use Rattle.systems.proofs.Kept.{kept-from, nth-kept}
 
 -- a record that no table has
 abbrev none : Transition

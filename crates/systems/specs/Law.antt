@@ -2,7 +2,7 @@
 use mathlib.Core.Path.{_≡_, ap, _∙_}
 use mathlib.Core.Bool.{false}
 use mathlib.Core.List.{List, [], _∷_}
-use Prim.Native.Nat.{ℕ, zero, suc, _/_, _%_, _^_, _≤_, _<_}
+use Prim.Native.Nat.{ℕ, zero, suc, _%_, _^_, _≤_, _<_}
 use native.Mathlib.Nat.{zero-div}
 use native.Mathlib.Omega.{arith}
 use lib.Dec.{eqb, ltb}
@@ -10,7 +10,7 @@ use lib.ListN.{length, getD}
 use Rattle.std.specs.shelf.Lists.{All}
 use Rattle.std.proofs.shelf.Tests.{and-left, and-right, le-ltb}
 use Rattle.systems.specs.Limits.{maxMoves, maxEvents, maxPropositions}
-use Rattle.systems.specs.Meaning.{Move, Transitions, Meaning, LawfulTransitions, Lawful, member, moveCount, missing, moveAt, eventsAt, targetAt, holds}
+use Rattle.systems.specs.Meaning.{Transitions, Meaning, LawfulTransitions, Lawful, member, moveCount, missing, eventsAt, targetAt, holds}
 
 -- what holds of each element and of the default holds of what is read anywhere
 pub all-read : {X : Type 0} (P : X → Type 0) (xs : List X) (i : ℕ) (d : X) → All P xs → P d → P (getD xs i d)

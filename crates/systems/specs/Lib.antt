@@ -4,3 +4,5 @@ pub mod Law
 pub mod Tabled
 pub mod TabledLaw
 pub mod Listing
+pub mod Largest
+pub mod Steps

@@ -1,10 +1,9 @@
 -- What a table means, over the records and the proposition sets that it is handed. Assumes nothing.
-use mathlib.Core.Path.{_≡_}
 use mathlib.Core.Bool.{Bool, cond, _&&_}
 use mathlib.Core.List.{List, map}
 use Prim.Native.Nat.{ℕ, _^_, _%_}
 use lib.Dec.{eqb, ltb}
-use lib.ListN.{length, getD, take}
+use lib.ListN.{getD, take}
 use Rattle.std.specs.shelf.Lists.{kept-by}
 use Rattle.systems.specs.Limits.{maxMoves, maxEvents, maxPropositions}
 use Rattle.systems.specs.Meaning.{Move, Transitions, Meaning}

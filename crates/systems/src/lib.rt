@@ -1,3 +1,4 @@
+pub mod largest;
 pub mod limits;
 pub mod listing;
 pub mod system;

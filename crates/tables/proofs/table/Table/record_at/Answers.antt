@@ -1,5 +1,4 @@
-use mathlib.Core.Path.{_≡_, sym, ap, _∙_}
-use native.Mathlib.Omega.{arith}
+use mathlib.Core.Path.{sym}
 use Rattle.tables.proofs.Finding.{span-read, past-count, together-at}
 use Rattle.tables.proofs.table.Table.record_at.Needs as need
 

@@ -1,0 +1,5 @@
+pub mod Rules
+pub mod Held
+pub mod Abstracted
+pub mod AbstractedLaw
+pub mod Showing

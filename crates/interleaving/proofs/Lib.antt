@@ -1,0 +1,4 @@
+pub mod Paired
+pub mod Made
+pub mod Turning
+pub mod Whole

@@ -1,0 +1,4 @@
+pub mod interleaving;
+mod mover;
+pub mod refusal;
+pub mod turns;

@@ -1,0 +1,3 @@
+pub mod hop;
+#[cfg(test)]
+mod tests;
