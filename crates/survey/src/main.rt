@@ -11,10 +11,16 @@ mod wording;
 
 // The most records and sets that a load writes.
 const RECORDS: usize = 1024;
+
 const SETS: usize = 256;
 
 // Prints the refusal for a program to read, and in words on standard error.
-fn refuse(rt: &LibcRuntime, transitions: &[u8], labels: &[u8], fault: &Fault) -> Result<(), AnyError> {
+fn refuse(
+    rt: &LibcRuntime,
+    transitions: &[u8],
+    labels: &[u8],
+    fault: &Fault,
+) -> Result<(), AnyError> {
     let heap = rt.alloc();
     rt.print(wording::numbered(heap, transitions, labels, fault)?.as_str())?;
     rt.eprint(wording::worded(heap, transitions, labels, fault)?.as_str())?;
@@ -33,7 +39,13 @@ fn main(rt: LibcRuntime) -> Result<(), AnyError> {
     let mut records = vec![in heap; nowhere; RECORDS]?;
     let mut sets = vec![in heap; 0; SETS]?;
     let mut vocabulary = Vocabulary::new();
-    match load(&transitions, &labels, &mut vocabulary, &mut records, &mut sets) {
+    match load(
+        &transitions,
+        &labels,
+        &mut vocabulary,
+        &mut records,
+        &mut sets,
+    ) {
         Ok(shape) => {
             let text = report::report(heap, shape, &records, &sets, &vocabulary)?;
             rt.print(text.as_str())?;

@@ -19,7 +19,12 @@ fn push_name(out: &mut String, name: &Name) -> Result<(), AllocError> {
 }
 
 // Adds names by number, a line each.
-fn push_names(out: &mut String, heap: Global, title: &str, names: &Names) -> Result<(), AllocError> {
+fn push_names(
+    out: &mut String,
+    heap: Global,
+    title: &str,
+    names: &Names,
+) -> Result<(), AllocError> {
     out.push_str(title)?;
     for (number, name) in names.names().iter().enumerate() {
         out.push_str(format!(heap, "  {number} ")?.as_str())?;
@@ -30,7 +35,12 @@ fn push_names(out: &mut String, heap: Global, title: &str, names: &Names) -> Res
 }
 
 // Adds the propositions that hold in a state.
-fn push_propositions(out: &mut String, table: &Table, q: u16, names: &Names) -> Result<(), AllocError> {
+fn push_propositions(
+    out: &mut String,
+    table: &Table,
+    q: u16,
+    names: &Names,
+) -> Result<(), AllocError> {
     for (number, name) in names.names().iter().enumerate() {
         if number < 64 && table.holds(q, number as u8) {
             out.push_str(" ")?;
@@ -59,7 +69,13 @@ fn push_events(out: &mut String, events: u64, names: &Names) -> Result<(), Alloc
 }
 
 // Adds a state with its propositions and its moves.
-fn push_state(out: &mut String, heap: Global, table: &Table, q: u16, vocabulary: &Vocabulary) -> Result<(), AllocError> {
+fn push_state(
+    out: &mut String,
+    heap: Global,
+    table: &Table,
+    q: u16,
+    vocabulary: &Vocabulary,
+) -> Result<(), AllocError> {
     out.push_str(format!(heap, "state {q}:")?.as_str())?;
     push_propositions(out, table, q, vocabulary.propositions())?;
     for i in 0..table.move_count(q) {
@@ -81,7 +97,13 @@ fn move_total(table: &Table) -> usize {
 }
 
 // States, moves, events and propositions by number and name, and each state.
-pub(crate) fn report<'x>(heap: Global, shape: Shape, records: &'x [Transition], sets: &'x [u64], vocabulary: &Vocabulary) -> Result<String, AllocError> {
+pub(crate) fn report<'x>(
+    heap: Global,
+    shape: Shape,
+    records: &'x [Transition],
+    sets: &'x [u64],
+    vocabulary: &Vocabulary,
+) -> Result<String, AllocError> {
     let table = Table::new(shape, records, sets);
     let mut out = String::new(heap);
     let states = table.states();

@@ -16,14 +16,23 @@ fn file_name(file: File) -> &'static str {
 // Adds the bytes of a line; a byte that is no printable ASCII character is shown as `?`.
 fn push_line(out: &mut String, line: &[u8]) -> Result<(), AllocError> {
     for b in line {
-        let c = if 32 <= *b && *b <= 126 { *b as char } else { '?' };
+        let c = if 32 <= *b && *b <= 126 {
+            *b as char
+        } else {
+            '?'
+        };
         out.push(c)?;
     }
     out.push_str("\n")
 }
 
 // The number alone; where a line is at fault, then the file with the byte at which the line starts, and the line itself.
-pub(crate) fn numbered(heap: Global, transitions: &[u8], labels: &[u8], fault: &Fault) -> Result<String, AllocError> {
+pub(crate) fn numbered(
+    heap: Global,
+    transitions: &[u8],
+    labels: &[u8],
+    fault: &Fault,
+) -> Result<String, AllocError> {
     let number = fault.number();
     let mut out = format!(heap, "{number}\n")?;
     if let Some((file, start)) = fault.place() {
@@ -38,15 +47,21 @@ pub(crate) fn numbered(heap: Global, transitions: &[u8], labels: &[u8], fault: &
 fn complaint(fault: &Fault) -> &'static str {
     match fault {
         Fault::TransitionsTooLong => "model.aut is longer than 65535 bytes",
-        Fault::HeaderLine { .. } => "the first line should read: des (INITIAL, TRANSITIONS, STATES)",
-        Fault::HeaderNumbers => "model.aut: there should be 1 to 256 states and at most 1024 transitions, and the initial state should be one of the states",
-        Fault::TransitionLine { .. } => "here a line should read: (FROM, \"LABEL\", TO), as many of them as the first line says, and nothing after them",
+        Fault::HeaderLine { .. } =>
+            "the first line should read: des (INITIAL, TRANSITIONS, STATES)",
+        Fault::HeaderNumbers =>
+            "model.aut: there should be 1 to 256 states and at most 1024 transitions, and the initial state should be one of the states",
+        Fault::TransitionLine { .. } =>
+            "here a line should read: (FROM, \"LABEL\", TO), as many of them as the first line says, and nothing after them",
         Fault::TransitionLabel { .. } => "the label should be i, or 1 to 8 names joined by ;",
-        Fault::TransitionStates { .. } => "the transition leaves or reaches a state that the first line does not allow for",
+        Fault::TransitionStates { .. } =>
+            "the transition leaves or reaches a state that the first line does not allow for",
         Fault::TooManyEvents => "model.aut: there are more than 64 different events",
         Fault::LabelsTooLong => "model.lab is longer than 65535 bytes",
-        Fault::NamesLine { .. } => "the first line should read: 0=\"init\" 1=\"deadlock\" 2=\"NAME\" and so on, with at most 64 names, all different",
-        Fault::StateLine { .. } => "here a line should read: STATE: NUMBER NUMBER, with states rising from line to line, and numbers of the first line, rising",
+        Fault::NamesLine { .. } =>
+            "the first line should read: 0=\"init\" 1=\"deadlock\" 2=\"NAME\" and so on, with at most 64 names, all different",
+        Fault::StateLine { .. } =>
+            "here a line should read: STATE: NUMBER NUMBER, with states rising from line to line, and numbers of the first line, rising",
         Fault::TooManyPropositions => "model.lab: there are more than 64 different propositions",
         Fault::TablesTooShort => "there is no room for so many transitions or states",
     }
@@ -64,7 +79,12 @@ fn line_number(file: &[u8], start: usize) -> usize {
 }
 
 // The refusal in words.
-pub(crate) fn worded(heap: Global, transitions: &[u8], labels: &[u8], fault: &Fault) -> Result<String, AllocError> {
+pub(crate) fn worded(
+    heap: Global,
+    transitions: &[u8],
+    labels: &[u8],
+    fault: &Fault,
+) -> Result<String, AllocError> {
     let words = complaint(fault);
     match fault.place() {
         Some((file, start)) => {
