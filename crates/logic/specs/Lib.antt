@@ -1,3 +1,4 @@
 pub mod Events
 pub mod Unfolding
 pub mod Derived
+pub mod Holding

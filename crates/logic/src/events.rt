@@ -1,5 +1,6 @@
 // Event formulas: entries of an array, each numbered after its parts.
 ghost use mathlib.Core.Path.{_≡_};
+ghost use lib.Dec.{eqb};
 ghost use Rattle.logic.specs.Events.{hasEvent, satisfies, partSatisfies, ByParts};
 
 // Events are numbered below this.
@@ -17,6 +18,13 @@ pub enum EventFormula {
     Not(u8),
     And(u8, u8),
     Or(u8, u8),
+}
+
+// Whether the set is empty.
+fn is_silent(events: u64) -> bool
+    ensures { λ r. ⌜ r ≡ eqb events 0 ⌝ }
+{
+    events == 0
 }
 
 // Whether the set holds the event.
@@ -43,7 +51,7 @@ pub fn accepts(entries: &[EventFormula], entry: u8, events: u64) -> bool
     match entries[entry as usize] {
         EventFormula::True => true,
         EventFormula::False => false,
-        EventFormula::Tau => events == 0,
+        EventFormula::Tau => is_silent(events),
         EventFormula::Event(e) => holds_event(events, e),
         EventFormula::Not(a) => !part_accepts(entries, entry, a, events),
         EventFormula::And(a, b) => part_accepts(entries, entry, a, events)

@@ -15,7 +15,7 @@ pub accepts-returns-in-False : need.accepts-returns-in-False
 accepts-returns-in-False t c = sym (read-entry (c .args .entries .now) (c .args .entry) (c .args .events) _ (nth-getD _ _ _ (c .if-entry-entries .left) ∙ ap Some (c .in-False .is)))
 
 pub accepts-returns-in-Tau : need.accepts-returns-in-Tau
-accepts-returns-in-Tau t c = sym (read-entry (c .args .entries .now) (c .args .entry) (c .args .events) _ (nth-getD _ _ _ (c .if-entry-entries .left) ∙ ap Some (c .in-Tau .is)))
+accepts-returns-in-Tau t c = c .is-silent .ensures ∙ sym (read-entry (c .args .entries .now) (c .args .entry) (c .args .events) _ (nth-getD _ _ _ (c .if-entry-entries .left) ∙ ap Some (c .in-Tau .is)))
 
 pub accepts-returns-in-Event : need.accepts-returns-in-Event
 accepts-returns-in-Event t c = c .holds-event .ensures ∙ sym (read-entry (c .args .entries .now) (c .args .entry) (c .args .events) _ (nth-getD _ _ _ (c .if-entry-entries .left) ∙ ap Some (c .in-Event .is)))
