@@ -62,7 +62,7 @@ impl<'a> Table<'a> {
     }
 
     // The record of the move `i` of the state `q`, looked for along the span of the state.
-    fn search(&self, q: u16, i: usize) -> Option<Transition>
+    fn find(&self, q: u16, i: usize) -> Option<Transition>
         ensures { λ r. ⌜ r ≡ nth (take maxMoves (counting (now (self .entry) .shape .states) q (take (now (self .entry) .shape .moves) (now (now (self .entry) .records))))) i ⌝ }
     {
         let span = self.span(q);
@@ -89,7 +89,7 @@ impl<'a> Table<'a> {
         } else if span.end - span.begin == span.count {
             Some(self.records[span.begin + i])
         } else {
-            self.search(q, i)
+            self.find(q, i)
         }
     }
 

@@ -6,8 +6,8 @@ use Rattle.systems.specs.Tabled.{counts}
 use Rattle.systems.proofs.Kept.{passing-yes, passing-no}
 use Rattle.systems.specs.Listing.{countingIn}
 use Rattle.tables.proofs.Finding.{span-read, past-count, found-at}
-use Rattle.tables.proofs.table.Table.search.Needs as need
-use Rattle.tables.proofs.table.Table.search.Needs.{then-counts·else-passed-i, else-counts}
+use Rattle.tables.proofs.table.Table.find.Needs as need
+use Rattle.tables.proofs.table.Table.find.Needs.{then-counts·else-passed-i, else-counts}
 
 pub loop-k-holds : need.loop-k-holds
 loop-k-holds c =
