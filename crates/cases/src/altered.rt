@@ -44,7 +44,7 @@ fn print_past(rt: &LibcRuntime, shape: Shape, bench: &Bench) -> io::Result<()> {
     Ok(())
 }
 
-// Records that join no two states, and one that moves to another state.
+// Records that join no two states, one of another state, and a set.
 fn run_altered(rt: &LibcRuntime, shape: Shape, bench: &mut Bench) -> io::Result<()> {
     put(bench, 1, 1, 2, 3);
     print_all(rt, "a target out of range", shape, bench)?;
@@ -56,7 +56,11 @@ fn run_altered(rt: &LibcRuntime, shape: Shape, bench: &mut Bench) -> io::Result<
         "a move of another state, with the last event",
         shape,
         bench,
-    )
+    )?;
+    if let Some(set) = bench.sets.get_mut(1) {
+        *set = 1 << 63;
+    }
+    print_all(rt, "a set of the last proposition", shape, bench)
 }
 
 // Records in another order, then fewer places than the shape says.

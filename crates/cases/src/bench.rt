@@ -120,8 +120,13 @@ impl Bench {
 }
 
 // What a load into new tables of the greatest size says.
-pub fn outcome(heap: Global, transitions: &str, labels: &str) -> Result<String, AllocError> {
+pub fn outcome_of(heap: Global, transitions: &[u8], labels: &[u8]) -> Result<String, AllocError> {
     let mut bench = Bench::new(heap, 1024, 256)?;
-    let done = bench.run(heap, transitions.as_bytes(), labels.as_bytes())?;
+    let done = bench.run(heap, transitions, labels)?;
     Ok(done.said)
+}
+
+// The same for two texts.
+pub fn outcome(heap: Global, transitions: &str, labels: &str) -> Result<String, AllocError> {
+    outcome_of(heap, transitions.as_bytes(), labels.as_bytes())
 }

@@ -1,6 +1,7 @@
 // Small texts with at most one thing wrong.
 use crate::answers::text_of;
 use crate::bench::outcome;
+use crate::bench::outcome_of;
 use crate::texts::LABELS;
 use crate::texts::MODEL;
 use crate::texts::labelled;
@@ -66,6 +67,16 @@ const MOVES: &[&str] = &[
     "des (0, 1, 256)\n(255, \"a\", 255)\n",
 ];
 
+// Transition files with bytes that are not text.
+const BYTES: &[&[u8]] = &[
+    b"\xff\xfe",
+    b"des (0, 1, 2)\xff\n(0, \"a\", 1)\n",
+    b"des (0, 1, 2)\n\x00",
+    b"des (0, 1, 2)\n(0, \"a\", 1\x80)\n",
+    b"des (0, 1, 2)\n(0, \"\xff\", 1)\n",
+    b"des (0, 1, 2)\n(0, \"a;\x00\", 1)\n",
+];
+
 // Labels of a move.
 const MOVE_LABELS: &[&str] = &[
     "",
@@ -119,6 +130,11 @@ const MOVE_LABELS: &[&str] = &[
     "a,b",
     "a\tb",
     "\u{e9}",
+    "a\0",
+    "\u{7f}",
+    "a;abcdefghijklmnopqrstuvwxy",
+    "abcdefghijklmnopqrstuvw:",
+    "abcdefghijklmnopqrstuv:x",
 ];
 
 // First lines of a label file.
@@ -186,6 +202,8 @@ const STATES: &[&str] = &[
     "\n",
     "0: 0\n\n1: 1\n",
     "0: 0\nx",
+    "0: 0x\n",
+    "0: 1 2 0\n",
 ];
 
 // Prints the text and what was said of it.
@@ -200,6 +218,17 @@ fn run_transitions(rt: &LibcRuntime, title: &str, texts: &[&str]) -> io::Result<
     for text in texts {
         let said = outcome(rt.alloc(), text, LABELS)?;
         show(rt, text, &said)?;
+    }
+    Ok(())
+}
+
+// Each of the transition files that are not text.
+fn run_bytes(rt: &LibcRuntime) -> io::Result<()> {
+    println!(rt, "bytes that are not text")?;
+    for bytes in BYTES {
+        let text = text_of(rt.alloc(), bytes)?;
+        let said = outcome_of(rt.alloc(), bytes, LABELS.as_bytes())?;
+        println!(rt, "[{text}] {said}")?;
     }
     Ok(())
 }
@@ -239,6 +268,7 @@ fn run_states(rt: &LibcRuntime) -> io::Result<()> {
 pub fn run(rt: &LibcRuntime) -> io::Result<()> {
     run_transitions(rt, "first lines", HEADERS)?;
     run_transitions(rt, "moves", MOVES)?;
+    run_bytes(rt)?;
     run_labels(rt)?;
     run_names(rt)?;
     run_states(rt)

@@ -15,6 +15,12 @@ const SECOND_LABELS: &str = "0=\"init\" 1=\"deadlock\" 2=\"q\" 3=\"r\" 4=\"p\"\n
 
 const THIRD: &str = "des (0, 0, 1)\n";
 
+// Names that are nearly the same, and one that is an event and a proposition.
+const FOURTH: &str =
+    "des (0, 1, 1)\n(0, \"abcdefghijklmnopqrstuvwx;abcdefghijklmnopqrstuvwy;a.;a\", 0)\n";
+
+const FOURTH_LABELS: &str = "0=\"init\" 1=\"deadlock\" 2=\"b\" 3=\"pp\"\n0: 1 2 3\n";
+
 // The names, in the order of their numbers.
 pub fn print_names(rt: &LibcRuntime, bench: &Bench) -> io::Result<()> {
     let events = names_text(rt.alloc(), bench.vocabulary.events())?;
@@ -57,5 +63,6 @@ pub fn run(rt: &LibcRuntime) -> io::Result<()> {
     let mut bench = Bench::new(rt.alloc(), 4, 4)?;
     load_more(rt, &mut bench, FIRST, FIRST_LABELS)?;
     load_more(rt, &mut bench, SECOND, SECOND_LABELS)?;
-    load_more(rt, &mut bench, THIRD, LABELS)
+    load_more(rt, &mut bench, THIRD, LABELS)?;
+    load_more(rt, &mut bench, FOURTH, FOURTH_LABELS)
 }

@@ -1,17 +1,21 @@
 // Texts at the limits, and one past each.
 use crate::bench::Bench;
 use crate::bench::outcome;
+use crate::facts::print_state;
 use crate::texts::LABELS;
 use crate::texts::MODEL;
 use crate::texts::events;
 use crate::texts::every_state;
+use crate::texts::largest;
 use crate::texts::long_labels;
 use crate::texts::long_moves;
 use crate::texts::loops;
 use crate::texts::marked;
 use crate::texts::names;
 use crate::texts::padded;
+use loading::shape::Shape;
 use std::io;
+use tables::table::Table;
 
 const STATES_256: &str = "des (0, 0, 256)\n";
 
@@ -101,6 +105,37 @@ fn run_full(rt: &LibcRuntime) -> io::Result<()> {
     println!(rt, "{full} full sets")
 }
 
+// A few of the states.
+fn print_some(rt: &LibcRuntime, shape: Shape, bench: &Bench) -> io::Result<()> {
+    let table = Table::new(shape, &bench.records, &bench.sets);
+    for q in [0, 1, 255] {
+        print_state(rt, &table, &bench.vocabulary, q)?;
+    }
+    Ok(())
+}
+
+// Loads the texts into new tables, and prints a few of the states.
+fn load_largest(rt: &LibcRuntime, transitions: &str, labels: &str) -> io::Result<()> {
+    let mut bench = Bench::new(rt.alloc(), 1024, 256)?;
+    match bench.load(transitions.as_bytes(), labels.as_bytes()) {
+        Ok(shape) => print_some(rt, shape, &bench),
+        Err(_) => println!(rt, "refused"),
+    }
+}
+
+// All the limits at once.
+fn run_largest(rt: &LibcRuntime) -> io::Result<()> {
+    let transitions = largest(rt.alloc())?;
+    let labels = every_state(rt.alloc(), 256)?;
+    show(
+        rt,
+        "the largest table",
+        transitions.as_str(),
+        labels.as_str(),
+    )?;
+    load_largest(rt, transitions.as_str(), labels.as_str())
+}
+
 // One move and three states, into tables of these lengths.
 fn run_tables(rt: &LibcRuntime) -> io::Result<()> {
     for (records, sets) in [(1, 3), (0, 3), (1, 2), (0, 0), (2, 4)] {
@@ -121,5 +156,6 @@ pub fn run(rt: &LibcRuntime) -> io::Result<()> {
     run_long_moves(rt)?;
     run_long_labels(rt)?;
     run_full(rt)?;
+    run_largest(rt)?;
     run_tables(rt)
 }

@@ -43,6 +43,31 @@ pub fn events(heap: Global, first: u16, end: u16, target: u16) -> Result<String,
     Ok(text)
 }
 
+// The eight events of a group, joined.
+fn group(heap: Global, number: u16) -> Result<String, AllocError> {
+    let first = u32::from(number) * 8;
+    let mut text = format!(heap, "e{first}")?;
+    for k in 1..8u32 {
+        let event = first + k;
+        let item = format!(heap, ";e{event}")?;
+        text.push_str(item.as_str())?;
+    }
+    Ok(text)
+}
+
+// A transition file with 256 states, 1,024 moves and 64 events, eight of them on each move.
+pub fn largest(heap: Global) -> Result<String, AllocError> {
+    let mut text = String::from_str(heap, "des (255, 1024, 256)\n")?;
+    for k in 0..1024u16 {
+        let source = k % 256;
+        let label = group(heap, k % 8)?;
+        let target = k / 4;
+        let line = format!(heap, "({source}, \"{label}\", {target})\n")?;
+        text.push_str(line.as_str())?;
+    }
+    Ok(text)
+}
+
 // A line of names: `init`, `deadlock`, and so many others, from `p` and `first` on.
 pub fn names(heap: Global, first: u16, others: u16) -> Result<String, AllocError> {
     let mut text = String::from_str(heap, "0=\"init\" 1=\"deadlock\"")?;
