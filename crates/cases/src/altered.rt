@@ -46,6 +46,8 @@ fn print_past(rt: &LibcRuntime, shape: Shape, bench: &Bench) -> io::Result<()> {
 
 // Records that join no two states, one of another state, and a set.
 fn run_altered(rt: &LibcRuntime, shape: Shape, bench: &mut Bench) -> io::Result<()> {
+    put(bench, 1, 0, 2, 9);
+    print_all(rt, "a record between two moves that is none", shape, bench)?;
     put(bench, 1, 1, 2, 3);
     print_all(rt, "a target out of range", shape, bench)?;
     put(bench, 3, 3, 3, 0);

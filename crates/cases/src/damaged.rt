@@ -41,6 +41,7 @@ const HEADERS: &[&str] = &[
 // Transition files with a lawful first line.
 const MOVES: &[&str] = &[
     "des (0, 1, 2)\n",
+    "des (0, 1024, 1)\n",
     "des (0, 2, 2)\n(0, \"a\", 1)\n",
     "des (0, 1, 2)\n(0, \"a\", 1)",
     "des (0, 1, 2)\n(0, \"a\", 1)\n(1, \"a\", 0)\n",
@@ -52,6 +53,8 @@ const MOVES: &[&str] = &[
     "des (0, 1, 2)\n(0, a, 1)\n",
     "des (0, 1, 2)\n(0, \"a, 1)\n",
     "des (0, 1, 2)\n(0, \"a\"b\", 1)\n",
+    "des (0, 1, 2)\n(0, \"a\nb\", 1)\n",
+    "des (0, 1, 2)\n(0, \"a\", 1\", 1)\n",
     "des (0, 1, 2)\n(0,\"a\", 1)\n",
     "des (0, 1, 2)\n(0, \"a\",  1)\n",
     "des (0, 1, 2)\n(00, \"a\", 1)\n",
@@ -154,6 +157,7 @@ const NAMES: &[&str] = &[
     "0=\"init\" 1=\"deadlock\" 2=\"a\" 2=\"b\"\n",
     "0=\"init\" 1=\"deadlock\" 02=\"a\"\n",
     "0=\"init\"  1=\"deadlock\"\n",
+    "0=\"init\",1=\"deadlock\"\n",
     "0=\"init\" 1=\"deadlock\" \n",
     " 0=\"init\" 1=\"deadlock\"\n",
     "0=\"init\" 1=\"deadlock\"\r\n",
@@ -174,6 +178,7 @@ const STATES: &[&str] = &[
     "0: 0\n1: 1 2\n2: 0 1 2\n",
     "1: 1\n",
     "0: 0",
+    "0: 0\n1: 1",
     "1: 0\n0: 0\n",
     "1: 0\n1: 1\n",
     "0: 0\n2: 1\n1: 2\n",

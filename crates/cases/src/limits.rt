@@ -15,7 +15,9 @@ use crate::texts::names;
 use crate::texts::padded;
 use loading::shape::Shape;
 use std::io;
+use systems::system::System;
 use tables::table::Table;
+use tables::table::TableSystem;
 
 const STATES_256: &str = "des (0, 0, 256)\n";
 
@@ -29,9 +31,27 @@ fn show(rt: &LibcRuntime, title: &str, transitions: &str, labels: &str) -> io::R
     println!(rt, "{title} ({first} and {second} bytes): {said}")
 }
 
+// How many moves leave the states 0 and 1 of the table.
+fn print_counts(rt: &LibcRuntime, shape: Shape, bench: &Bench) -> io::Result<()> {
+    let table = Table::new(shape, &bench.records, &bench.sets);
+    let first = table.move_count(0);
+    let second = table.move_count(1);
+    println!(rt, "{first} moves leave the state 0, {second} the state 1")
+}
+
+// Loads moves that leave one state.
+fn load_moves(rt: &LibcRuntime, transitions: &str) -> io::Result<()> {
+    let mut bench = Bench::new(rt.alloc(), 1024, 1)?;
+    match bench.load(transitions.as_bytes(), LABELS.as_bytes()) {
+        Ok(shape) => print_counts(rt, shape, &bench),
+        Err(_) => println!(rt, "refused"),
+    }
+}
+
 fn run_moves(rt: &LibcRuntime) -> io::Result<()> {
     let most = loops(rt.alloc(), 1024)?;
     show(rt, "1,024 moves", most.as_str(), LABELS)?;
+    load_moves(rt, most.as_str())?;
     let more = loops(rt.alloc(), 1025)?;
     show(rt, "1,025 moves", more.as_str(), LABELS)
 }
