@@ -7,7 +7,7 @@ use Prim.Native.Nat.{ℕ, suc, _+_, _<_, _≤_}
 use native.Mathlib.Omega.{arith}
 use lib.Dec.{eqb, leb, ltb}
 use lib.ListN.{length}
-use borrow.Author.Tests.{eq-eqb, ne-eqb, le-leb, lt-leb}
+use borrow.Author.Tests.{le-leb, lt-leb}
 use Rattle.std.proofs.shelf.Lists.{length-push}
 use Rattle.std.proofs.shelf.Tests.{lt-ltb, le-ltb, and-left, cases-lt}
 use Rattle.std.specs.Options.{isSome, mapped}
@@ -28,8 +28,8 @@ module _ (known : List Name) (it : Item) where
   none-by true false = refl
   none-by false b = refl
 
-  pub other-number : (it .number ≡ length known → ⊥) → None ≡ accepted (Some known) it
-  other-number ne = sym (ap (λ a. By a (ltb (length known) namesLimit) (named (it .text))) (ne-eqb _ _ ne))
+  pub other-number : eqb (it .number) (length known) ≡ false → None ≡ accepted (Some known) it
+  other-number e = sym (ap (λ a. By a (ltb (length known) namesLimit) (named (it .text))) e)
 
   pub no-name : None ≡ named (it .text) → None ≡ accepted (Some known) it
   no-name e = sym (ap (By (eqb (it .number) (length known)) (ltb (length known) namesLimit)) (sym e) ∙ none-by (eqb (it .number) (length known)) (ltb (length known) namesLimit))
@@ -58,8 +58,8 @@ module _ (known : List Name) (it : Item) where
         off true = refl
         off false = refl
 
-    pub new-name : it .number ≡ length known → isSome (numberOf known n) ≡ false → true ≡ leb (length (joinAll known (n ∷ []))) namesLimit → Some (joinAll known (n ∷ [])) ≡ accepted (Some known) it
+    pub new-name : eqb (it .number) (length known) ≡ true → isSome (numberOf known n) ≡ false → true ≡ leb (length (joinAll known (n ∷ []))) namesLimit → Some (joinAll known (n ∷ [])) ≡ accepted (Some known) it
     new-name same h f =
         let room : length known < namesLimit = ⊎-elim (λ lt. lt)
         (λ le. absurd (let s : leb (length (joinAll known (n ∷ []))) namesLimit ≡ false = lt-leb _ _ (omega (arith, ap length (joined h), length-push known n)) in let z : _≡_ {A = ℕ} 0 1 = cc in omega arith)) (cases-lt (length known) namesLimit) in
-        ap Some (joined h) ∙ sym ((λ j. By (eq-eqb _ _ same j) (lt-ltb _ _ room j) (sym e j)) ∙ ap (λ t. cond t None (Some (known ++ (n ∷ [])))) h)
+        ap Some (joined h) ∙ sym ((λ j. By (same j) (lt-ltb _ _ room j) (sym e j)) ∙ ap (λ t. cond t None (Some (known ++ (n ∷ [])))) h)

@@ -1,7 +1,10 @@
 // The first line of the label file: names, numbered from 0 on.
 ghost use mathlib.Core.Path.{_≡_};
-ghost use Rattle.std.specs.Options.{mapped};
+ghost use lib.Dec.{eqb};
+ghost use lib.ListN.{length};
+ghost use Rattle.std.specs.Options.{isSome, mapped};
 ghost use Rattle.text.specs.Held.{held};
+ghost use Rattle.text.specs.Numbering.{numberOf};
 ghost use Rattle.contents.specs.NamesLine.{accepted, itemOf, namesOf, seenNames, isCalled, wellBegun};
 use layouts::fault::LineFault;
 use layouts::labels::NameItem;
@@ -9,16 +12,30 @@ use layouts::labels::read_item;
 use text::names::Name;
 use text::numbering::Names;
 
+// Whether the number is the one after those of the names.
+fn is_next(names: &Names, number: u16) -> bool
+    ensures { λ r. ⌜ r ≡ eqb number (length (held (now (names .entry)))) ⌝ }
+{
+    number as usize == names.len()
+}
+
+// Whether the name is among the names.
+fn is_listed(names: &Names, name: &Name) -> bool
+    ensures { λ r. ⌜ r ≡ isSome (numberOf (held (now (names .entry))) (now (name .entry))) ⌝ }
+{
+    names.number_of(name).is_some()
+}
+
 // The names with the entry's name behind them: it has the next number, and a lawful name that is not there yet.
 fn accept(found: Option<Names>, item: NameItem<'_>) -> Option<Names>
     ensures { λ r. ⌜ mapped held r ≡ accepted (mapped held found) (itemOf (item .entry)) ⌝ }
 {
     let names = found?;
-    if item.number as usize != names.len() {
+    if !is_next(&names, item.number) {
         return None;
     }
     let name = Name::new(item.text)?;
-    if names.number_of(&name).is_some() {
+    if is_listed(&names, &name) {
         return None;
     }
     let mut longer = names;

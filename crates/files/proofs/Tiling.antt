@@ -17,6 +17,10 @@ use Rattle.std.specs.declared.option.Option.{Option}
 use Rattle.std.specs.declared.option.Option.the-variants.{Some, None}
 use Rattle.files.specs.Lines.{Row, lineAt, lead, rowsFrom, rowsOf, lineOf, endOf, printedRow, Whole, Follow, RowsTile}
 
+-- the first byte b from a place on, or the end, is not past the end
+pub end-inside : (b : ℕ) (s : List ℕ) (i end : ℕ) → end ≡ i + before b (drop i s) → i ≤ length s → end ≤ length s
+end-inside b s i end e h = omega (arith, e, before-short b (drop i s), length-drop i s)
+
 tile-lead : (at x : ℕ) (rs : List Row) → joined printedRow (lead at x rs) ≡ x ∷ joined printedRow rs
 tile-lead at x [] = refl
 tile-lead at x (r ∷ rs) = refl

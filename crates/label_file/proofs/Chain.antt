@@ -2,10 +2,9 @@
 use mathlib.Core.Path.{_≡_, refl, sym, ap, _∙_}
 use mathlib.Core.List.{List}
 use mathlib.Core.Bool.{true, false}
-use Prim.Native.Nat.{ℕ, _≤_}
+use Prim.Native.Nat.{ℕ}
 use lib.Dec.{leb}
 use lib.ListN.{length}
-use borrow.Author.Tests.{le-leb}
 use Rattle.std.specs.declared.option.Option.the-variants.{Some, None}
 use Rattle.std.specs.declared.result.Result.the-variants.{Ok, Err}
 use Rattle.files.specs.Lines.{rowsOf}
@@ -13,13 +12,13 @@ use Rattle.files.specs.declared.fault.Fault.the-variants.{StateLine, TooManyPro
 use Rattle.files.proofs.Tiling.{rowsPast}
 use Rattle.text.specs.Numbering.{namesLimit, joinAll}
 use Rattle.text.specs.declared.names.Name.{Name}
-use Rattle.transition_file.specs.TransitionPart.{fileLimit, short, body, bodyStart, numbered}
+use Rattle.transition_file.specs.TransitionPart.{short, body, bodyStart, numbered}
 use Rattle.transition_file.proofs.Scanning.{body-rows}
 use Rattle.label_file.specs.LabelPart.{namesRow, mislabelled, labelPart}
 
-module _ (file : List ℕ) (n : ℕ) (known names : List Name) (from k : ℕ) (small : length file ≤ fileLimit) (first : Some names ≡ namesRow (rowsOf file)) (start : from ≡ bodyStart file) where
+module _ (file : List ℕ) (n : ℕ) (known names : List Name) (from k : ℕ) (small : true ≡ short file) (first : Some names ≡ namesRow (rowsOf file)) (start : from ≡ bodyStart file) where
   e1 : short file ≡ true
-  e1 = le-leb (length file) fileLimit small
+  e1 = sym small
 
   e2 : namesRow (rowsOf file) ≡ Some names
   e2 = sym first

@@ -8,8 +8,7 @@ use native.Mathlib.Omega.{arith}
 use lib.Bits.{bitOr}
 use lib.Dec.{leb, ltb}
 use lib.ListN.{length, getD}
-use borrow.Author.Tests.{le-leb, lt-leb}
-use Rattle.std.proofs.shelf.Tests.{lt-ltb, le-ltb, ltb-true, and-parts}
+use Rattle.std.proofs.shelf.Tests.{ltb-true, and-parts}
 use Rattle.std.specs.Iters.{folded}
 use Rattle.std.specs.Options.{isSome, mapped}
 use Rattle.std.specs.declared.option.Option.{Option}
@@ -102,28 +101,17 @@ module _ (n k least : ℕ) (file : List ℕ) (at : ℕ) where
         ap (mislabelled n k least) (rows-at file at r after (sym e)) ∙ ap (λ o. orStart o (r .start) (λ next. mislabelled n k next (rowsPast file after))) (sym h) ∙
         ap (λ next. mislabelled n k next (rowsPast file after)) (sym (add-one q))
 
--- the three tests, told by what code finds
-module _ (n least q : ℕ) (set : Option ℕ) where
-  abbrev Given : Bool → Bool → Bool → Option ℕ
-  Given a b c = cond ((a && b) && c) (Some q) None
+-- the two tests, told by what code finds
+module _ (q : ℕ) (a b : Bool) where
+  pub tests-pass : a ≡ true → b ≡ true → cond (a && b) (Some q) None ≡ Some q
+  tests-pass h s = λ j. cond (h j && s j) (Some q) None
 
-  pub tests-pass : q < n → least ≤ q → isSome set ≡ true → Given (ltb q n) (leb least q) (isSome set) ≡ Some q
-  tests-pass h l s = λ j. Given (lt-ltb q n h j) (le-leb least q l j) (s j)
+  pub test-state : a ≡ false → cond (a && b) (Some q) None ≡ None
+  test-state h = ap (λ x. cond (x && b) (Some q) None) h
 
-  pub test-state : n ≤ q → Given (ltb q n) (leb least q) (isSome set) ≡ None
-  test-state h = ap (λ a. Given a (leb least q) (isSome set)) (le-ltb q n h)
+  off : (a : Bool) → cond (a && false) (Some q) None ≡ None
+  off true = refl
+  off false = refl
 
-  off : (a c : Bool) → Given a false c ≡ None
-  off true c = refl
-  off false c = refl
-
-  pub test-least : q < least → Given (ltb q n) (leb least q) (isSome set) ≡ None
-  test-least h = ap (λ b. Given (ltb q n) b (isSome set)) (lt-leb least q h) ∙ off (ltb q n) (isSome set)
-
-  gone : (a b : Bool) → Given a b false ≡ None
-  gone true true = refl
-  gone true false = refl
-  gone false b = refl
-
-  pub test-set : isSome set ≡ false → Given (ltb q n) (leb least q) (isSome set) ≡ None
-  test-set s = ap (λ c. Given (ltb q n) (leb least q) c) s ∙ gone (ltb q n) (leb least q)
+  pub test-set : b ≡ false → cond (a && b) (Some q) None ≡ None
+  test-set s = ap (λ x. cond (a && x) (Some q) None) s ∙ off a

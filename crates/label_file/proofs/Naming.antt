@@ -40,12 +40,6 @@ found-fault (Err f) h = refl
 pub found-none : (x : Result (Option Names) LineFault) (o : Option Names) → x ≡ Ok o → o ≡ None → None ≡ wellNamed (seenNames x)
 found-none x o e n = sym (ap (λ y. wellNamed (seenNames y)) (e ∙ ap Ok n))
 
-module _ (x : Result (Option Names) LineFault) (o : Option Names) (names : Names) (e : x ≡ Ok o) (s : o ≡ Some names) where
-  found-some : wellNamed (seenNames x) ≡ cond (wellBegun (held names)) (Some (held names)) None
-  found-some = ap (λ y. wellNamed (seenNames y)) (e ∙ ap Ok s)
-
-  pub found-well : true ≡ wellBegun (held names) → Some (held names) ≡ wellNamed (seenNames x)
-  found-well h = sym (found-some ∙ ap (λ b. cond b (Some (held names)) None) (sym h))
-
-  pub found-ill : false ≡ wellBegun (held names) → None ≡ wellNamed (seenNames x)
-  found-ill h = sym (found-some ∙ ap (λ b. cond b (Some (held names)) None) (sym h))
+pub found-some : (x : Result (Option Names) LineFault) (o : Option Names) (names : Names) → x ≡ Ok o → o ≡ Some names →
+    wellNamed (seenNames x) ≡ cond (wellBegun (held names)) (Some (held names)) None
+found-some x o names e s = ap (λ y. wellNamed (seenNames y)) (e ∙ ap Ok s)

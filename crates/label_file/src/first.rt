@@ -1,13 +1,27 @@
 // The first line of the label file.
 ghost use mathlib.Core.Path.{_≡_};
+ghost use mathlib.Core.Bool.{cond};
 ghost use Rattle.std.specs.Options.{mapped};
+ghost use Rattle.std.specs.declared.option.Option.the-variants.{Some, None};
 ghost use Rattle.files.specs.Lines.{rowsOf};
 ghost use Rattle.text.specs.Held.{held};
+ghost use Rattle.contents.specs.NamesLine.{wellBegun};
 ghost use Rattle.label_file.specs.LabelPart.{namesRow};
 use contents::names::are_well_begun;
 use contents::names::read_names;
 use files::lines::line_at;
 use text::numbering::Names;
+
+// The names, where they begin as they must.
+fn well_begun(names: Names) -> Option<Names>
+    ensures { λ r. ⌜ mapped held r ≡ cond (wellBegun (held names)) (Some (held names)) None ⌝ }
+{
+    if are_well_begun(&names) {
+        Some(names)
+    } else {
+        None
+    }
+}
 
 // The names of the first line, where it is ended and lawful.
 pub(crate) fn first_names(file: &[u8]) -> Option<Names>
@@ -21,9 +35,5 @@ pub(crate) fn first_names(file: &[u8]) -> Option<Names>
         return None;
     };
     let names = found?;
-    if are_well_begun(&names) {
-        Some(names)
-    } else {
-        None
-    }
+    well_begun(names)
 }

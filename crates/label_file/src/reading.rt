@@ -8,7 +8,7 @@ use files::fault::Fault;
 use text::numbering::NAMES_LIMIT;
 use text::numbering::Names;
 use transition_file::first::body_start;
-use transition_file::reading::FILE_LIMIT;
+use transition_file::reading::is_short;
 
 // The names that the file lists, and the names of propositions with those of the file behind them.
 #[derive(Clone, Copy)]
@@ -21,7 +21,7 @@ pub struct LabelsRead {
 pub fn read_labels(file: &[u8], states: u16, known: &Names) -> Result<LabelsRead, Fault>
     ensures { λ r. ⌜ ReadAs (now (file .entry)) states (held (now (known .entry))) r ⌝ }
 {
-    if file.len() > FILE_LIMIT {
+    if !is_short(file) {
         return Err(Fault::LabelsTooLong);
     }
     let Some(names) = first_names(file) else {

@@ -1,5 +1,7 @@
 // Passes over the lines of labels.
 ghost use mathlib.Core.Path.{_≡_};
+ghost use mathlib.Core.Bool.{_&&_};
+ghost use lib.Dec.{leb, ltb};
 ghost use lib.ListN.{length, drop};
 ghost use Rattle.files.specs.Lines.{rowsFrom};
 ghost use Rattle.label_file.specs.LabelPart.{lawfulState, mislabelled};
@@ -7,6 +9,13 @@ ghost use Rattle.label_file.specs.Found.{rowOf};
 use contents::marks::read_marks;
 use files::lines::Line;
 use files::lines::line_at;
+
+// Whether the state is one of so many, and at least `least`.
+fn is_due(state: u16, states: u16, least: u16) -> bool
+    ensures { λ r. ⌜ r ≡ (ltb state states && leb least state) ⌝ }
+{
+    state < states && least <= state
+}
 
 // The state of a line that is lawful: one of the states, at least `least`, with numbers that rise and are listed.
 fn lawful_state(line: Line<'_>, states: u16, least: u16, masks: &[u64]) -> Option<u16>
@@ -18,7 +27,7 @@ fn lawful_state(line: Line<'_>, states: u16, least: u16, masks: &[u64]) -> Optio
     let Ok(marked) = read_marks(line.text, masks) else {
         return None;
     };
-    if marked.state < states && least <= marked.state && marked.set.is_some() {
+    if is_due(marked.state, states, least) && marked.set.is_some() {
         Some(marked.state)
     } else {
         None

@@ -1,7 +1,8 @@
 // The proposition sets that the label file fills.
 ghost use mathlib.Core.Path.{_≡_};
 ghost use Prim.Native.Nat.{_≤_, _<_};
-ghost use lib.ListN.{length, take, drop};
+ghost use lib.Bits.{bitOr};
+ghost use lib.ListN.{length, take, drop, getD, set};
 ghost use Rattle.std.specs.Iters.{folded};
 ghost use Rattle.files.specs.Lines.{rowsFrom};
 ghost use Rattle.layouts.specs.Layouts.{marksOf};
@@ -36,6 +37,14 @@ fn clear(states: usize, sets: &mut [u64])
     }
 }
 
+// Adds to the set at the place.
+fn add_set(sets: &mut [u64], place: usize, more: u64)
+    requires { ⌜ place < length (now sets) ⌝ }
+    ensures { λ _. ⌜ now (sets .exit) ≡ set (now (sets .entry)) place (bitOr (getD (now (sets .entry)) place 0) more) ⌝ }
+{
+    sets[place] |= more;
+}
+
 // Adds what a line says to the set of its state.
 fn mark_line(line: &[u8], states: usize, masks: &[u64], sets: &mut [u64])
     ensures { λ _. ⌜ Changed (λ q set. addMarks (now (masks .entry)) q set (marksOf (now (line .entry)))) states (now (sets .entry)) (now (sets .exit)) ⌝ }
@@ -48,7 +57,7 @@ fn mark_line(line: &[u8], states: usize, masks: &[u64], sets: &mut [u64])
     };
     let place = marked.state as usize;
     if place < states && place < sets.len() {
-        sets[place] |= set;
+        add_set(sets, place, set);
     }
 }
 

@@ -1,8 +1,9 @@
 // Decimal numbers of 1 to 4 digits with no leading zero.
 ghost use mathlib.Core.Path.{_≡_};
-ghost use Prim.Native.Nat.{_<_, _≤_};
+ghost use Prim.Native.Nat.{_+_, _*_, _<_, _≤_};
+ghost use lib.Dec.{eqb};
 ghost use lib.ListN.{drop, length};
-ghost use Rattle.layouts.specs.Numbers.{digitWorth, frontWorth, numberAt, Numerals};
+ghost use Rattle.layouts.specs.Numbers.{digitWorth, frontWorth, mostDigits, numberAt, Numerals};
 use crate::fault::NumberFault;
 
 // At most so many digits.
@@ -37,6 +38,21 @@ fn worth_at(text: &[u8], at: usize) -> Option<u8>
     }
 }
 
+// Whether a number of so many digits has no room for another.
+fn is_full(digits: usize) -> bool
+    ensures { λ r. ⌜ r ≡ eqb digits mostDigits ⌝ }
+{
+    digits == MOST_DIGITS
+}
+
+// The number with one digit more.
+fn with_digit(value: u16, worth: u8) -> u16
+    requires { ⌜ value * 10 + worth < 65536 ⌝ }
+    ensures { λ r. ⌜ r ≡ value * 10 + worth ⌝ }
+{
+    value * 10 + worth as u16
+}
+
 // Reads the number that starts at `at`.
 pub fn read_number(text: &[u8], at: usize) -> Result<Number, NumberFault>
     ensures { λ r. ⌜ r ≡ numberAt (now (text .entry)) at ⌝ }
@@ -50,10 +66,10 @@ pub fn read_number(text: &[u8], at: usize) -> Result<Number, NumberFault>
     }
     let mut value = first as u16;
     while let Some(worth) = worth_at(text, after) {
-        if after - at == MOST_DIGITS {
+        if is_full(after - at) {
             return Err(NumberFault { at: after });
         }
-        value = value * 10 + worth as u16;
+        value = with_digit(value, worth);
         after += 1;
     }
     Ok(Number { value, after })

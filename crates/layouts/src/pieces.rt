@@ -23,7 +23,7 @@ pub(crate) fn read_piece(line: &[u8], at: usize, piece: &[u8]) -> Result<usize, 
 pub fn byte_from(text: &[u8], at: usize, wanted: u8) -> usize
     ensures { λ r. ⌜ r ≡ at + before wanted (drop at (now (text .entry))) ⌝ }
 {
-    let mut end = at;
+    let mut end: usize = at;
     while end < text.len() && text[end] != wanted {
         end += 1;
     }

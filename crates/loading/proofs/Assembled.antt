@@ -5,7 +5,7 @@ use mathlib.Core.Bool.{Bool, true, false, _&&_}
 use Prim.Native.Nat.{ℕ, _≤_, _<_}
 use native.Mathlib.Omega.{arith}
 use lib.ListN.{length, getD, drop, length-map}
-use borrow.Author.Tests.{le-leb, lt-leb}
+use Rattle.std.proofs.shelf.Tests.{leb-true, and-parts}
 use lib.Dec.{leb}
 use Rattle.std.specs.Iters.{counting}
 use Rattle.std.specs.declared.result.Result.{Result}
@@ -15,14 +15,18 @@ use Rattle.files.specs.declared.fault.Fault.the-variants.{TablesTooShort}
 use Rattle.layouts.specs.declared.transitions.Header.{Header}
 use Rattle.systems.specs.Tabled.{tabled}
 use Rattle.systems.specs.declared.transition.Transition.{Transition}
+use Rattle.text.specs.Held.{held}
 use Rattle.text.specs.Numbering.{joinAll}
 use Rattle.text.specs.declared.names.Name.{Name}
+use Rattle.text.specs.declared.numbering.Names.{Names}
 use Rattle.transition_file.specs.Records.{recordIn, written}
 use Rattle.transition_file.specs.TransitionPart.{transitionPart, eventsThen, arrowsOf, arrowIn, body}
 use Rattle.label_file.specs.LabelPart.{labelPart, masks, labelsAt}
 use Rattle.label_file.specs.Found.{Changed}
 use Rattle.loading.specs.Spelling.{Contents, spelled}
-use Rattle.loading.specs.Loads.{tablesFit, loaded}
+use Rattle.loading.specs.Loads.{tablesFit, loaded, Leaves}
+use Rattle.loading.specs.declared.shape.Shape.{Shape}
+use Rattle.loading.specs.declared.vocabulary.Vocabulary.{Vocabulary}
 use Rattle.loading.proofs.Facts.{told, counted, all-pass, transitions-few, listed, all-within}
 use Rattle.loading.proofs.Meant.{moves-meant, labels-meant, written-front, changed-front}
 
@@ -42,18 +46,11 @@ module _ (ts ls : List ℕ) (known known2 : List Name) (rs ss : ℕ) where
       pub loaded-all : tablesFit h rs ss ≡ true → loaded ts ls known known2 rs ss ≡ Ok (record { header = h; names = names })
       loaded-all e3 = rw (e, e2, e3) refl
 
-pub few-records : (h : Header) (rs ss : ℕ) → rs < h .transitions → tablesFit h rs ss ≡ false
-few-records h rs ss lt = ap (λ b. b && leb (h .states) ss) (lt-leb (h .transitions) rs lt)
+pub fits-records : (h : Header) (rs ss : ℕ) → tablesFit h rs ss ≡ true → h .transitions ≤ rs
+fits-records h rs ss e = leb-true (h .transitions) rs (and-parts (leb (h .transitions) rs) (leb (h .states) ss) e .0)
 
-pub few-sets : (h : Header) (rs ss : ℕ) → ss < h .states → tablesFit h rs ss ≡ false
-few-sets h rs ss lt = ap (λ b. leb (h .transitions) rs && b) (lt-leb (h .states) ss lt) ∙ off (leb (h .transitions) rs)
-  where
-    off : (b : Bool) → (b && false) ≡ false
-    off true = refl
-    off false = refl
-
-pub enough : (h : Header) (rs ss : ℕ) → h .transitions ≤ rs → h .states ≤ ss → tablesFit h rs ss ≡ true
-enough h rs ss a b = λ j. le-leb (h .transitions) rs a j && le-leb (h .states) ss b j
+pub fits-sets : (h : Header) (rs ss : ℕ) → tablesFit h rs ss ≡ true → h .states ≤ ss
+fits-sets h rs ss e = leb-true (h .states) ss (and-parts (leb (h .transitions) rs) (leb (h .states) ss) e .1)
 
 -- what is left
 pub record Left (ts ls : List ℕ) (c : Contents) (events props : List Name) (rs rs′ : List Transition) (ss ss′ : List ℕ) : Type 0 where
@@ -89,3 +86,19 @@ module _ (ts ls : List ℕ) (known known2 : List Name) (h : Header) (names event
           propositions = λ k. labels-meant (h .states) props names (body ls) ss′ few2 (all-within (h .states) (length names) 0 (body ls) (l .lines)) read k j;
         };
       }
+
+-- the shape and the vocabulary beside them
+module _ (ts ls : List ℕ) (v v′ : Vocabulary) (events props : Names) (rs rs′ : List Transition) (ss ss′ : List ℕ) (c : Contents) (s : Shape) (f : Left ts ls c (held events) (held props) rs rs′ ss ss′)
+    (ev : held events ≡ eventsThen ts (held (v .events))) (pr : held props ≡ joinAll (held (v .propositions)) (c .names)) (same : v′ ≡ record { events = events; propositions = props })
+    (a : s .states ≡ c .header .states) (b : s .initial ≡ c .header .initial) (m : s .moves ≡ c .header .transitions) where
+  pub leaves : Leaves ts ls v v′ rs rs′ ss ss′ c s
+  leaves = subst (λ x. Leaves ts ls v x rs rs′ ss ss′ c s) (sym same) (record {
+    states = a;
+    initial = b;
+    moves = m;
+    events = ev;
+    propositions = pr;
+    written = f .wrote;
+    marked = f .marked;
+    meaning = (λ j. tabled (a j) (b j) (m j) rs′ ss′) ∙ f .meaning;
+  })

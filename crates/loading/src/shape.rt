@@ -2,6 +2,7 @@
 ghost use mathlib.Core.Path.{_≡_};
 ghost use Prim.Native.Nat.{_<_, _≤_};
 ghost use Rattle.systems.specs.Limits.{maxStates};
+use layouts::transitions::Header;
 
 mod loading;
 
@@ -18,6 +19,21 @@ pub struct Shape {
 }
 
 impl Shape {
+    // The shape of a table with the numbers of the header.
+    fn of(header: &Header) -> Shape
+        requires few { ⌜ now header .states ≤ maxStates ⌝ }
+        requires starts { ⌜ now header .initial < now header .states ⌝ }
+        ensures states { λ r. ⌜ r .states ≡ now (header .entry) .states ⌝ }
+        ensures initial { λ r. ⌜ r .initial ≡ now (header .entry) .initial ⌝ }
+        ensures moves { λ r. ⌜ r .moves ≡ now (header .entry) .transitions ⌝ }
+    {
+        Shape {
+            states: header.states,
+            initial: header.initial,
+            moves: header.transitions as usize,
+        }
+    }
+
     // The number of states, 1 to 256.
     pub fn states(&self) -> u16
         ensures { λ r. ⌜ r ≡ now (self .entry) .states ⌝ }

@@ -23,6 +23,16 @@ impl Vocabulary {
         }
     }
 
+    // The vocabulary of these names.
+    pub(crate) fn of(events: Names, propositions: Names) -> Self
+        ensures { λ r. ⌜ r ≡ record { events = events; propositions = propositions } ⌝ }
+    {
+        Vocabulary {
+            events,
+            propositions,
+        }
+    }
+
     // The events, by number.
     pub fn events(&self) -> &Names
         ensures { λ r. ⌜ now r ≡ now (self .entry) .events ⌝ }

@@ -15,7 +15,7 @@ use Rattle.files.proofs.Tiling.{rowsPast}
 use Rattle.layouts.specs.declared.transitions.Header.{Header}
 use Rattle.text.specs.declared.names.Name.{Name}
 use Rattle.text.specs.Numbering.{joinAll, namesLimit}
-use Rattle.transition_file.specs.TransitionPart.{fileLimit, short, headerRow, numbersFit, misplaced, failing, onArrow, lawfulLabel, joinsStates, namesInRows, joinIfFew, numbered, bodyStart, body, eventsThen, transitionPart}
+use Rattle.transition_file.specs.TransitionPart.{short, headerRow, numbersFit, misplaced, failing, onArrow, lawfulLabel, joinsStates, namesInRows, joinIfFew, numbered, bodyStart, body, eventsThen, transitionPart}
 use Rattle.transition_file.proofs.Scanning.{body-rows}
 use Rattle.transition_file.proofs.Joining.{few-if, many-if}
 
@@ -23,9 +23,9 @@ use Rattle.transition_file.proofs.Joining.{few-if, many-if}
 rows : (file : List ℕ) (from : ℕ) → from ≡ bodyStart file → rowsPast file from ≡ body file
 rows file from e = ap (rowsPast file) e ∙ body-rows file
 
-module _ (file : List ℕ) (known : List Name) (h : Header) (from : ℕ) (small : length file ≤ fileLimit) (head : Some h ≡ headerRow (rowsOf file)) (fit : true ≡ numbersFit h) (start : from ≡ bodyStart file) where
+module _ (file : List ℕ) (known : List Name) (h : Header) (from : ℕ) (small : true ≡ short file) (head : Some h ≡ headerRow (rowsOf file)) (fit : true ≡ numbersFit h) (start : from ≡ bodyStart file) where
   e1 : short file ≡ true
-  e1 = le-leb (length file) fileLimit small
+  e1 = sym small
 
   e2 : headerRow (rowsOf file) ≡ Some h
   e2 = sym head

@@ -34,11 +34,8 @@ module _ (file : List ℕ) where
     pub first-some : rowsOf file ≡ r ∷ rowsPast file after
     first-some = rows-at file 0 r after (sym e)
 
-    pub header-open : r .ended ≡ false → None ≡ headerRow (rowsOf file)
-    header-open h = sym (ap headerRow first-some ∙ ap (λ b. cond b (okPart (headerOf (r .text))) None) h)
-
-    pub header-some : r .ended ≡ true → okPart (headerOf (r .text)) ≡ headerRow (rowsOf file)
-    header-some h = sym (ap headerRow first-some ∙ ap (λ b. cond b (okPart (headerOf (r .text))) None) h)
+    pub header-told : cond (r .ended) (okPart (headerOf (r .text))) None ≡ headerRow (rowsOf file)
+    header-told = sym (ap headerRow first-some)
 
 -- a pass over lines
 module _ (p : Row → Bool) (file : List ℕ) (at : ℕ) where

@@ -1,6 +1,7 @@
 // The questions of the transition file, in order.
 ghost use mathlib.Core.Path.{_≡_};
 ghost use Rattle.text.specs.Held.{held};
+ghost use Rattle.transition_file.specs.TransitionPart.{short};
 ghost use Rattle.transition_file.specs.Found.{ReadAs};
 use crate::first::body_start;
 use crate::first::first_header;
@@ -26,11 +27,18 @@ pub struct TransitionsRead {
     pub events: Names,
 }
 
+// Whether a file is not too long.
+pub fn is_short(file: &[u8]) -> bool
+    ensures { λ r. ⌜ r ≡ short (now (file .entry)) ⌝ }
+{
+    file.len() <= FILE_LIMIT
+}
+
 // Puts questions 1 to 7.
 pub fn read_transitions(file: &[u8], known: &Names) -> Result<TransitionsRead, Fault>
     ensures { λ r. ⌜ ReadAs (now (file .entry)) (held (now (known .entry))) r ⌝ }
 {
-    if file.len() > FILE_LIMIT {
+    if !is_short(file) {
         return Err(Fault::TransitionsTooLong);
     }
     let Some(header) = first_header(file) else {

@@ -1,5 +1,5 @@
 use mathlib.Core.Path.{_≡_, sym, ap, _∙_}
-use Rattle.label_file.proofs.Naming.{row-none, row-open, row-some, found-fault, found-none, found-well, found-ill}
+use Rattle.label_file.proofs.Naming.{row-none, row-open, row-some, found-fault, found-none, found-some}
 use Rattle.label_file.proofs.first.first_names.Needs as need
 
 pub returns-in-Break-line : need.returns-in-Break-line
@@ -15,10 +15,7 @@ pub returns-in-Break-names : need.returns-in-Break-names
 returns-in-Break-names c =
     rw (c .from-residual-in-Break-names .ensures) (found-none (c .read-names .result) _ (c .in-Ok .is) (c .in-Break-names .was tt) ∙ row-some (c .args .file .now) _ _ (c .in-Continue-line .ensures tt) (c .if-not-line .left) (c .read-names .result) (c .read-names .ensures))
 
-pub returns-then-are-well-begun : need.returns-then-are-well-begun
-returns-then-are-well-begun c =
-    found-well (c .read-names .result) _ _ (c .in-Ok .is) (c .in-Continue-names .was tt) (c .if-are-well-begun .ensures tt) ∙ row-some (c .args .file .now) _ _ (c .in-Continue-line .ensures tt) (c .if-not-line .left) (c .read-names .result) (c .read-names .ensures)
-
-pub returns-else-are-well-begun : need.returns-else-are-well-begun
-returns-else-are-well-begun c =
-    found-ill (c .read-names .result) _ _ (c .in-Ok .is) (c .in-Continue-names .was tt) (c .if-are-well-begun .ensures tt) ∙ row-some (c .args .file .now) _ _ (c .in-Continue-line .ensures tt) (c .if-not-line .left) (c .read-names .result) (c .read-names .ensures)
+pub returns : need.returns
+returns c =
+    c .well-begun .ensures ∙ sym (found-some (c .read-names .result) _ _ (c .in-Ok .is) (c .in-Continue-names .was tt)) ∙
+    row-some (c .args .file .now) _ _ (c .in-Continue-line .ensures tt) (c .if-not-line .left) (c .read-names .result) (c .read-names .ensures)

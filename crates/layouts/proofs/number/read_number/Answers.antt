@@ -1,13 +1,14 @@
-use mathlib.Core.Path.{_≡_, refl, sym, ap, _∙_}
+use mathlib.Core.Path.{_≡_, refl, sym, ap, subst, _∙_}
 use mathlib.Core.Bool.{true, false}
 use Prim.Native.Nat.{_+_, _-_, _<_, _≤_}
 use native.Mathlib.Omega.{arith}
 use lib.ListN.{drop, length}
 use borrow.Author.Needs.{needs}
+use borrow.Author.Tests.{true-eqb, false-eqb}
 use Rattle.std.specs.Options.{isSome}
 use Rattle.std.specs.declared.result.Result.the-variants.{Err}
 use Rattle.layouts.specs.Numbers.{digits, zeroLeads}
-use Rattle.layouts.proofs.Digits.{within, begin, step, fifth, room, some-small, some-digits, none-digits, none-worth, number-none, number-zero, number-long, number-good, leads-none, leads-zero, leads-alone, next-some, next-none, number-read}
+use Rattle.layouts.proofs.Digits.{Sofar, within, begin, step, fifth, room, some-small, some-digits, none-digits, none-worth, number-none, number-zero, number-long, number-good, leads-none, leads-zero, leads-alone, next-some, next-none, number-read}
 use Rattle.layouts.proofs.number.read_number.Needs as need
 use Rattle.layouts.proofs.number.read_number.Needs.{else-first-eq0·by·then-first-eq0·else-is-some, else-first-eq0·by·else-first-eq0}
 
@@ -36,33 +37,32 @@ loop-worth-holds c =
     ] in
     (begin s i _ e, z)
 
-pub mul-value : need.mul-value
-mul-value c =
+pub with-digit-value-requires : need.with-digit-value-requires
+with-digit-value-requires c =
     let f = c .loop-worth .inv .0 in
-    omega (arith, room (c .loop-worth .after - c .args .at) (c .loop-worth .value) 0 (omega (arith, f .few, c .if-after-at-eq-MOST-DIGITS .left)) (f .small) (omega arith))
-
-pub add-value : need.add-value
-add-value c =
-    let f = c .loop-worth .inv .0 in
-    omega (arith, room (c .loop-worth .after - c .args .at) (c .loop-worth .value) (c .in-Some-worth-at .worth) (omega (arith, f .few, c .if-after-at-eq-MOST-DIGITS .left)) (f .small) (some-small (drop (c .loop-worth .after) (c .args .text .now)) (c .in-Some-worth-at .worth) (sym (c .in-Some-worth-at .ensures tt))))
+    omega (arith, room (c .loop-worth .after - c .args .at) (c .loop-worth .value) (c .in-Some-worth-at .worth) (omega (arith, f .few, false-eqb _ 4 (c .if-is-full .ensures tt))) (f .small) (some-small (drop (c .loop-worth .after) (c .args .text .now)) (c .in-Some-worth-at .worth) (sym (c .in-Some-worth-at .ensures tt))))
 
 pub add-after-in-Some-worth-at : need.add-after-in-Some-worth-at
 add-after-in-Some-worth-at c = omega (arith, within (c .args .text .now) (c .loop-worth .after) _ (sym (c .in-Some-worth-at .ensures tt)))
 
-pub returns-then-after-at-eq-MOST-DIGITS : need.returns-then-after-at-eq-MOST-DIGITS
-returns-then-after-at-eq-MOST-DIGITS c =
+pub returns-then-is-full : need.returns-then-is-full
+returns-then-is-full c =
     let s = c .args .text .now in
     let i = c .args .at in
     let f = c .loop-worth .inv .0 in
-    let more = fifth s i _ _ _ f (sym (c .in-Some-worth-at .ensures tt)) (c .if-after-at-eq-MOST-DIGITS .taken) in
-    let here : c .loop-worth .after ≡ i + 4 = omega (arith, f .onward, c .if-after-at-eq-MOST-DIGITS .taken) in
+    let more = fifth s i _ _ _ f (sym (c .in-Some-worth-at .ensures tt)) (true-eqb _ 4 (c .if-is-full .ensures tt)) in
+    let here : c .loop-worth .after ≡ i + 4 = omega (arith, f .onward, true-eqb _ 4 (c .if-is-full .ensures tt)) in
     (λ j. Err (record { at = here j })) ∙ sym (number-long s i (omega (arith, more)) (c .loop-worth .inv .1) more)
 
 pub loop-worth-less : need.loop-worth-less
 loop-worth-less c = omega (arith, within (c .args .text .now) (c .loop-worth .after) _ (sym (c .in-Some-worth-at .ensures tt)))
 
 pub loop-worth-again : need.loop-worth-again
-loop-worth-again c = (step (c .args .text .now) (c .args .at) _ _ _ (c .loop-worth .inv .0) (sym (c .in-Some-worth-at .ensures tt)) (c .if-after-at-eq-MOST-DIGITS .left), c .loop-worth .inv .1)
+loop-worth-again c =
+    let s = c .args .text .now in
+    let i = c .args .at in
+    let f = step s i _ _ _ (c .loop-worth .inv .0) (sym (c .in-Some-worth-at .ensures tt)) (false-eqb _ 4 (c .if-is-full .ensures tt)) in
+    (subst (Sofar s i (c .loop-worth .after + 1)) (sym (c .with-digit-value .ensures)) f, c .loop-worth .inv .1)
 
 pub returns : need.returns
 returns c = number-read (c .args .text .now) (c .args .at) (c .loop-worth .after) (c .loop-worth .value) (c .loop-worth .inv .0) (c .loop-worth .inv .1) (sym (c .in-rest-worth-at .ensures tt))
