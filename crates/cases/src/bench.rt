@@ -16,10 +16,11 @@ pub struct Bench {
     pub sets: Vec<u64>,
 }
 
-// What came of a load, and whether everything is as it was before.
+// What came of a load, whether it was refused, and whether everything is as it was before.
 #[derive(Drop)]
 pub struct Loaded {
     pub said: String,
+    pub refused: bool,
     pub kept: bool,
 }
 
@@ -114,16 +115,23 @@ impl Bench {
         let before = self.copy(heap)?;
         let result = self.load(transitions, labels);
         let said = answer(heap, transitions, labels, &result)?;
-        let kept = self.same(&before);
-        Ok(Loaded { said, kept })
+        Ok(Loaded {
+            said,
+            refused: result.is_err(),
+            kept: self.same(&before),
+        })
     }
 }
 
-// What a load into new tables of the greatest size says.
+// What a load into new tables of the greatest size says, and whether a refusal changed anything.
 pub fn outcome_of(heap: Global, transitions: &[u8], labels: &[u8]) -> Result<String, AllocError> {
     let mut bench = Bench::new(heap, 1024, 256)?;
     let done = bench.run(heap, transitions, labels)?;
-    Ok(done.said)
+    let mut said = done.said;
+    if done.refused && !done.kept {
+        said.push_str(" and changed something")?;
+    }
+    Ok(said)
 }
 
 // The same for two texts.

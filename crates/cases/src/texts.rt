@@ -143,7 +143,7 @@ pub fn long_labels(heap: Global) -> Result<String, AllocError> {
     Ok(text)
 }
 
-// The text with so many bytes `x` behind it.
+// The text with bytes `x` behind it, up to this size.
 pub fn padded(heap: Global, front: &str, size: usize) -> Result<String, AllocError> {
     let mut text = String::from_str(heap, front)?;
     for _ in front.len()..size {
