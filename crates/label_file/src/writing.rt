@@ -1,12 +1,14 @@
 // The proposition sets that the label file fills.
 ghost use mathlib.Core.Path.{_≡_};
-ghost use Prim.Native.Nat.{_≤_, _<_};
+ghost use mathlib.Core.List.{_++_};
+ghost use Prim.Native.Nat.{_-_, _≤_, _<_};
 ghost use lib.Bits.{bitOr};
-ghost use lib.ListN.{length, take, drop, getD, set};
+ghost use lib.ListN.{length, drop, getD, set, replicate};
 ghost use Rattle.std.specs.Iters.{folded};
 ghost use Rattle.files.specs.Lines.{rowsFrom};
 ghost use Rattle.layouts.specs.Layouts.{marksOf};
 ghost use Rattle.text.specs.Held.{held};
+ghost use Rattle.text.specs.Numbering.{namesLimit};
 ghost use Rattle.transition_file.specs.TransitionPart.{body};
 ghost use Rattle.label_file.specs.LabelPart.{masks, addMarks, addRow, labelsAt};
 ghost use Rattle.label_file.specs.Found.{Changed};
@@ -17,9 +19,9 @@ use text::numbering::Names;
 use transition_file::first::body_start;
 use transition_file::writing::bit_of;
 
-// What the numbers of the file stand for: the set of the name's number in the vocabulary.
+// What the numbers of the file stand for: the set of the name's number in the vocabulary, and nothing behind the names.
 pub fn masks_of(names: &Names, known: &Names) -> [u64; NAMES_LIMIT]
-    ensures { λ r. ⌜ take (length (held (now (names .entry)))) r ≡ masks (held (now (known .entry))) (held (now (names .entry))) ⌝ }
+    ensures { λ r. ⌜ r ≡ masks (held (now (known .entry))) (held (now (names .entry))) ++ replicate (namesLimit - length (held (now (names .entry)))) 0 ⌝ }
 {
     let mut all = [0; NAMES_LIMIT];
     for (place, name) in names.names().iter().enumerate() {

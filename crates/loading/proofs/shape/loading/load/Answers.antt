@@ -1,7 +1,9 @@
 use mathlib.Core.Path.{_≡_, refl, sym, ap, _∙_}
 use Prim.Native.Nat.{_-_}
 use native.Mathlib.Omega.{arith}
-use lib.ListN.{length, take}
+use lib.ListN.{length, take, length-map}
+use Rattle.std.proofs.shelf.Lists.{take-at}
+use Rattle.transition_file.specs.Sets.{bitIn}
 use borrow.Author.Needs.{needs}
 use Rattle.text.specs.Held.{held}
 use Rattle.label_file.specs.LabelPart.{masks}
@@ -38,7 +40,8 @@ returns c =
     let ss = c .args .sets .now in
     let fit = sym (c .if-not-tables-fit .ensures tt) in
     let size : c .len .result - 0 ≡ length names = omega (arith, c .len .ensures) in
-    let ms = ap (λ n. take n (c .masks-of-masks .result)) size ∙ c .masks-of-masks .ensures in
+    let known = held (c .in-Continue-listed .listed .propositions) in
+    let ms = ap (λ n. take n (c .masks-of-masks .result)) size ∙ ap (take (length names)) (c .masks-of-masks .ensures) ∙ take-at (masks known names) _ (length names) (length-map names (bitIn known)) in
     let f = left ts ls _ _ h names _ _ rs _ ss _ _ (r .0) (r .1) (l .0) (l .1) (fits-records h (length rs) (length ss) fit) (fits-sets h (length rs) (length ss) fit) (c .write-transitions .ensures) ms (c .write-labels .ensures) in (
       record { header = h; names = names },
       loaded-all ts ls _ _ (length rs) (length ss) h (r .0) names (l .0) fit,
