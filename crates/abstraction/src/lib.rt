@@ -1,3 +1,5 @@
+#![tactic(auto)]
+
 pub mod abstraction;
 pub mod refusal;
 pub mod rule;

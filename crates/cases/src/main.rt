@@ -1,4 +1,6 @@
 // Loads many small and large texts and prints what comes of each.
+#![tactic(auto)]
+
 use std::io;
 
 mod altered;

@@ -1,4 +1,6 @@
 // The class of each byte of a text.
+#![tactic(auto)]
+
 ghost use Rattle.std.specs.Prelude.{◌≡◌, T};
 ghost use Rattle.classes.specs.Bytes.{class_rule};
 ghost use Rattle.classes.specs.Table.{keeps_rule};

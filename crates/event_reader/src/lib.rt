@@ -1,3 +1,5 @@
 // Reads event formulas.
+#![tactic(auto)]
+
 pub mod guards;
 mod operands;

@@ -1,4 +1,6 @@
 // Which symbols spell which formula.
+#![tactic(auto)]
+
 ghost use Rattle.grammar.specs.Telling.{ReadIsSpelled, OneFormulaEach};
 
 // Symbols spell a formula exactly if its tree is what is read of them.

@@ -1,3 +1,5 @@
+#![tactic(auto)]
+
 pub mod interleaving;
 mod mover;
 pub mod refusal;

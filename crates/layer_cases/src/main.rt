@@ -1,4 +1,6 @@
 // Systems built on systems: every fact of the example beside itself and behind a sheet, and the limits of both.
+#![tactic(auto)]
+
 use std::io;
 
 mod example;

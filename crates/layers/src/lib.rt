@@ -1,3 +1,5 @@
+#![tactic(auto)]
+
 pub mod hop;
 #[cfg(test)]
 mod tests;

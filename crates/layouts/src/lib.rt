@@ -1,4 +1,6 @@
 // Numbers and the layouts of the lines of the two files.
+#![tactic(auto)]
+
 ghost use Rattle.layouts.specs.Printed.{ReadsAsWritten};
 
 pub mod fault;

@@ -1,4 +1,6 @@
 // The tokens of formula text, handed out one by one.
+#![tactic(auto)]
+
 ghost use Rattle.std.specs.Prelude.{◌≡◌, ◌+◌, drop};
 ghost use Rattle.lexer.specs.Tokens.{is_blank, mark_of, blanks, token_at, seen_token};
 

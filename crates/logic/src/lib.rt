@@ -1,4 +1,6 @@
 // Formulas: event formulas, the kinds of nodes, and what they mean over a system.
+#![tactic(auto)]
+
 pub mod derived;
 pub mod events;
 pub mod limits;

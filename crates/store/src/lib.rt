@@ -1,4 +1,6 @@
 // A last-in first-out store of records over places that are lent to it.
+#![tactic(auto)]
+
 ghost use Rattle.std.specs.Prelude.{◌≡◌, ◌<◌, ◌≤◌, [], length, Some};
 ghost use Rattle.store.specs.Stored.{held, Put, Pushed, Taken, LastInFirstOut};
 

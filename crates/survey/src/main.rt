@@ -1,4 +1,6 @@
 // Reports on the behaviour table in the folder it is run in: `model.aut` and `model.lab`.
+#![tactic(auto)]
+
 use anyhow::anyhow;
 use files::fault::Fault;
 use loading::shape::load;

@@ -1,4 +1,6 @@
 // The symbols of formula text: marks, words with a meaning of their own, and names.
+#![tactic(auto)]
+
 ghost use Rattle.std.specs.Prelude.{◌≡◌};
 ghost use Rattle.symbols.specs.Symbols.{symbol_number, is, mark_symbol, operator_symbol, word_symbol, symbol_at, accept_at, lexes};
 

@@ -1,3 +1,5 @@
+#![tactic(auto)]
+
 pub mod largest;
 pub mod limits;
 pub mod listing;

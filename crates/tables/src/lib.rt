@@ -1,3 +1,5 @@
+#![tactic(auto)]
+
 mod span;
 mod spanned;
 pub mod table;

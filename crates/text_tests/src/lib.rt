@@ -1,4 +1,6 @@
 // Examples of words, names, look-ups, numbered names and stores.
+#![tactic(auto)]
+
 ghost use Rattle.std.specs.Prelude.{◌<◌};
 
 #[cfg(test)]

@@ -1,4 +1,6 @@
 // The transition file: its questions, and the records that it fills.
+#![tactic(auto)]
+
 pub mod first;
 pub mod questions;
 pub mod reading;

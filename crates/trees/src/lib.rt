@@ -1,4 +1,6 @@
 // Formulas as trees, and the numbers of their nodes.
+#![tactic(auto)]
+
 ghost use Rattle.trees.specs.Lawful.{LawfulLie};
 ghost use Rattle.trees.specs.Reading.{ReadsBack, NodesTell};
 
