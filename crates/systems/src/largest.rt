@@ -5,8 +5,8 @@ use crate::system::System;
 
 // The largest number of moves that leave a state.
 pub fn largest_move_count<S: System>(s: &S) -> usize
-    ensures is { result ≡ largest (meaning s.now).transitions }
-    ensures most { Largest (meaning s.now).transitions result }
+    ensures is { result ≡ largest (S.System.meaning s.now).transitions }
+    ensures most { Largest (S.System.meaning s.now).transitions result }
 {
     let mut most = 0;
     for q in 0..s.states() {

@@ -7,12 +7,12 @@ returns-in-End c = lexed_end c.args.text.now c.loop-placed.at _ _ c.in-Ok.placed
 
 pub loop-placed-smaller : goal.loop-placed-smaller
 loop-placed-smaller c =
-    let o = lexed_onward c.args.text.now c.loop-placed.at _ _ c.in-Ok.placed.token c.in-Ok.ensures c.in-default-token.not-End in
+    let o = lexed_onward c.args.text.now c.loop-placed.at _ _ c.in-Ok.placed.token c.in-Ok.ensures c.in_default-token.not-End in
     omega (arith, o.0, o.1)
 
 pub loop-placed-preserved : goal.loop-placed-preserved
 loop-placed-preserved c =
-    lexed_more c.args.text.now c.loop-placed.at _ _ c.in-Ok.placed.token c.in-Ok.ensures c.in-default-token.not-End ∙ c.loop-placed.invariant
+    lexed_more c.args.text.now c.loop-placed.at _ _ c.in-Ok.placed.token c.in-Ok.ensures c.in_default-token.not-End ∙ c.loop-placed.invariant
 
 pub returns : goal.returns
-returns c = lexed_fault c.args.text.now c.loop-placed.at _ c.in-default.ensures ∙ c.loop-placed.invariant
+returns c = lexed_fault c.args.text.now c.loop-placed.at _ c.in_default.ensures ∙ c.loop-placed.invariant

@@ -13,13 +13,13 @@ loop-turn-init c =
     let n : suc (length s) ≡ suc (length s) - 0 = omega arith in
     (λ j. folding accepted (item_at s) (Some (sym c.new.ensures j)) (n j) 0)
 
-pub returns-in-err-item : goal.returns-in-err-item
-returns-in-err-item c =
+pub returns-in_err-item : goal.returns-in_err-item
+returns-in_err-item c =
     let s = c.args.line.now in
     let p = err_from_is_err_and c.from-residual.result c.from-residual.ensures.1 in
     let k = suc (length s) - c.loop-turn.turn in
     let t : k ≡ suc (length s - c.loop-turn.turn) = omega (arith, c.loop-turn-test.true) in
-    let f = fold_fault accepted (item_at s) (option_map held c.loop-turn.found) k (length s - c.loop-turn.turn) c.loop-turn.at t _ (sym c.in-err-item.ensures) in
+    let f = fold_fault accepted (item_at s) (option_map held c.loop-turn.found) k (length s - c.loop-turn.turn) c.loop-turn.at t _ (sym c.in_err-item.ensures) in
     rw (p.1, p.2) (sym (c.loop-turn.invariant ∙ f))
 
 pub returns-in-None : goal.returns-in-None
@@ -27,7 +27,7 @@ returns-in-None c =
     let s = c.args.line.now in
     let k = suc (length s) - c.loop-turn.turn in
     let t : k ≡ suc (length s - c.loop-turn.turn) = omega (arith, c.loop-turn-test.true) in
-    let f = fold_last accepted (item_at s) (option_map held c.loop-turn.found) k (length s - c.loop-turn.turn) c.loop-turn.at t _ _ (sym c.in-ok-item.ensures) c.in-None.is in
+    let f = fold_last accepted (item_at s) (option_map held c.loop-turn.found) k (length s - c.loop-turn.turn) c.loop-turn.at t _ _ (sym c.in_ok-item.ensures) c.in-None.is in
     ap Ok c.accept-found.ensures ∙ sym (c.loop-turn.invariant ∙ f)
 
 pub loop-turn-preserved : goal.loop-turn-preserved
@@ -36,7 +36,7 @@ loop-turn-preserved c =
     let k = suc (length s) - c.loop-turn.turn in
     let m = suc (length s) - (c.loop-turn.turn + 1) in
     let t : k ≡ suc m = omega (arith, c.loop-turn-test.true) in
-    let f = fold_more accepted (item_at s) (option_map held c.loop-turn.found) k m c.loop-turn.at t _ _ _ (sym c.in-ok-item.ensures) c.in-Some.is in
+    let f = fold_more accepted (item_at s) (option_map held c.loop-turn.found) k m c.loop-turn.at t _ _ _ (sym c.in_ok-item.ensures) c.in-Some.is in
     c.loop-turn.invariant ∙ f ∙ ap (λ a. folding accepted (item_at s) a m c.in-Some.next) (sym c.accept-found.ensures)
 
 pub returns : goal.returns

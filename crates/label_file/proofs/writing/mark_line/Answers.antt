@@ -10,7 +10,7 @@ returns-then-place-sets c =
     let ms = c.args.masks.now in
     let line = c.args.line.now in
     let here = mark_here ms line c.in-Ok.marked c.in-Ok.ensures _ c.in-Some.is _ _ c.if-place-states.true c.if-place-sets.true in
-    subst (Changed (λ q set. add_marks ms q set (marks_of line)) c.args.states c.args.sets.now) (sym c.add-set.ensures) here
+    subst (Changed (λ q set. add_marks ms q set (marks_of line)) c.args.states c.args.sets.now) (sym c.add_set.ensures) here
 
 pub returns-else-place-states : goal.returns-else-place-states
 returns-else-place-states c =

@@ -16,9 +16,9 @@ loop-place-preserved c =
     let d : Name = record { first = 0; second = 0; third = 0 } in
     let inside : k < length ns = omega (arith, c.loop-place-test.true, ap length items) in
     let room : k < length c.loop-place.all = omega (arith, c.loop-place.invariant.2, held_length t, t.within) in (
-      take_more_set c.loop-place.all k c.bit-of.result room ∙ ap (λ xs. xs ++ (c.bit-of.result ∷ [])) c.loop-place.invariant.0 ∙
-          ap (λ b. map f (take k ns) ++ (b ∷ [])) (c.bit-of.ensures ∙ ap (λ xs. f (get_or xs k d)) items) ∙ sym (map_more f ns k d inside),
-      drop-set-lt (k + 1) c.loop-place.all k c.bit-of.result (omega arith) ∙ sym (drop-drop 1 k c.loop-place.all) ∙ ap (drop 1) c.loop-place.invariant.1 ∙ drop-drop 1 k (replicate 64 0),
+      take_more_set c.loop-place.all k c.bit_of.result room ∙ ap (λ xs. xs ++ (c.bit_of.result ∷ [])) c.loop-place.invariant.0 ∙
+          ap (λ b. map f (take k ns) ++ (b ∷ [])) (c.bit_of.ensures ∙ ap (λ xs. f (get_or xs k d)) items) ∙ sym (map_more f ns k d inside),
+      drop-set-lt (k + 1) c.loop-place.all k c.bit_of.result (omega arith) ∙ sym (drop-drop 1 k c.loop-place.all) ∙ ap (drop 1) c.loop-place.invariant.1 ∙ drop-drop 1 k (replicate 64 0),
       length-set _ _ _ ∙ c.loop-place.invariant.2,
     )
 

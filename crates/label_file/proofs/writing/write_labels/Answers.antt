@@ -8,7 +8,7 @@ pub loop-line-init : goal.loop-line-init
 loop-line-init c = marking_none _ _ _ _ _
 
 pub loop-line-preserved : goal.loop-line-preserved
-loop-line-preserved c = marking_more _ _ _ _ _ _ _ c.loop-line.invariant (row_of c.in-Some.line) _ _ c.in-Some.ensures c.mark-line.ensures
+loop-line-preserved c = marking_more _ _ _ _ _ _ _ c.loop-line.invariant (row_of c.in-Some.line) _ _ c.in-Some.ensures c.mark_line.ensures
 
 pub loop-line-smaller : goal.loop-line-smaller
 loop-line-smaller c =
@@ -16,4 +16,4 @@ loop-line-smaller c =
     omega (arith, o.0, o.1)
 
 pub returns : goal.returns
-returns c = marking_all _ _ _ _ _ _ _ c.loop-line.invariant _ c.in-default.ensures c.clear.ensures c.body-start-at.ensures
+returns c = marking_all _ _ _ _ _ _ _ c.loop-line.invariant _ c.in_default.ensures c.clear.ensures c.body_start-at.ensures

@@ -13,16 +13,16 @@ pub accepts-returns-in-False : goal.accepts-returns-in-False
 accepts-returns-in-False t c = sym (read_entry c.args.entries.now c.args.entry c.args.events _ (slice_get-get_or _ _ _ c.if-entry-entries.false ∙ ap Some c.in-False.is))
 
 pub accepts-returns-in-Tau : goal.accepts-returns-in-Tau
-accepts-returns-in-Tau t c = c.is-silent.ensures ∙ sym (read_entry c.args.entries.now c.args.entry c.args.events _ (slice_get-get_or _ _ _ c.if-entry-entries.false ∙ ap Some c.in-Tau.is))
+accepts-returns-in-Tau t c = c.is_silent.ensures ∙ sym (read_entry c.args.entries.now c.args.entry c.args.events _ (slice_get-get_or _ _ _ c.if-entry-entries.false ∙ ap Some c.in-Tau.is))
 
 pub accepts-returns-in-Event : goal.accepts-returns-in-Event
-accepts-returns-in-Event t c = c.holds-event.ensures ∙ sym (read_entry c.args.entries.now c.args.entry c.args.events _ (slice_get-get_or _ _ _ c.if-entry-entries.false ∙ ap Some c.in-Event.is))
+accepts-returns-in-Event t c = c.holds_event.ensures ∙ sym (read_entry c.args.entries.now c.args.entry c.args.events _ (slice_get-get_or _ _ _ c.if-entry-entries.false ∙ ap Some c.in-Event.is))
 
 pub accepts-returns-in-Not : goal.accepts-returns-in-Not
-accepts-returns-in-Not t c = ap not c.part-accepts.ensures ∙ sym (read_entry c.args.entries.now c.args.entry c.args.events _ (slice_get-get_or _ _ _ c.if-entry-entries.false ∙ ap Some c.in-Not.is))
+accepts-returns-in-Not t c = ap not c.part_accepts.ensures ∙ sym (read_entry c.args.entries.now c.args.entry c.args.events _ (slice_get-get_or _ _ _ c.if-entry-entries.false ∙ ap Some c.in-Not.is))
 
 pub accepts-returns-in-And : goal.accepts-returns-in-And
-accepts-returns-in-And t c = (λ j. c.part-accepts-in-And.ensures j && c.part-accepts-in-And-2.ensures j) ∙ sym (read_entry c.args.entries.now c.args.entry c.args.events _ (slice_get-get_or _ _ _ c.if-entry-entries.false ∙ ap Some c.in-And.is))
+accepts-returns-in-And t c = (λ j. c.part_accepts-in-And.ensures j && c.part_accepts-in-And-2.ensures j) ∙ sym (read_entry c.args.entries.now c.args.entry c.args.events _ (slice_get-get_or _ _ _ c.if-entry-entries.false ∙ ap Some c.in-And.is))
 
 pub accepts-returns-in-Or : goal.accepts-returns-in-Or
-accepts-returns-in-Or t c = (λ j. c.part-accepts-in-Or.ensures j || c.part-accepts-in-Or-2.ensures j) ∙ sym (read_entry c.args.entries.now c.args.entry c.args.events _ (slice_get-get_or _ _ _ c.if-entry-entries.false ∙ ap Some c.in-Or.is))
+accepts-returns-in-Or t c = (λ j. c.part_accepts-in-Or.ensures j || c.part_accepts-in-Or-2.ensures j) ∙ sym (read_entry c.args.entries.now c.args.entry c.args.events _ (slice_get-get_or _ _ _ c.if-entry-entries.false ∙ ap Some c.in-Or.is))

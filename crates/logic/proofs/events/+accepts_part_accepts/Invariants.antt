@@ -4,5 +4,5 @@ use Rattle.logic.proofs.events.+accepts_part_accepts.Given as goal
 abbrev pub decreases-accepts : goal.decreases-accepts
 decreases-accepts l = 2 * l.initial + 1
 
-abbrev pub decreases-part-accepts : goal.decreases-part-accepts
-decreases-part-accepts l = 2 * l.initial
+abbrev pub decreases-part_accepts : goal.decreases-part_accepts
+decreases-part_accepts l = 2 * l.initial

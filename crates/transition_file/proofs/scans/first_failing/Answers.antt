@@ -12,7 +12,7 @@ returns-then-not-passes g c =
     let p : Arrow → Bool = g.Q.Question.asks c.args.question.now in
     let l = c.in-Some.line in
     let row : Row = record { start = l.start; text = l.text.now; ended = l.ended } in
-    let said : on_arrow p row ≡ c.match-read-transition.passes = elim c.match-read-transition.branch [
+    let said : on_arrow p row ≡ c.match-read_transition.passes = elim c.match-read_transition.branch [
       | in-Ok w ↦ ap (asked p) (sym w.in-Ok.ensures) ∙ sym w.ask-passes.ensures ∙ sym w.passes-is
       | in-Err w ↦ ap (asked p) (sym w.in-Err.ensures) ∙ sym w.passes-is
     ] in
@@ -23,7 +23,7 @@ loop-line-preserved g c =
     let p : Arrow → Bool = g.Q.Question.asks c.args.question.now in
     let l = c.in-Some.line in
     let row : Row = record { start = l.start; text = l.text.now; ended = l.ended } in
-    let said : on_arrow p row ≡ c.match-read-transition.passes = elim c.match-read-transition.branch [
+    let said : on_arrow p row ≡ c.match-read_transition.passes = elim c.match-read_transition.branch [
       | in-Ok w ↦ ap (asked p) (sym w.in-Ok.ensures) ∙ sym w.ask-passes.ensures ∙ sym w.passes-is
       | in-Err w ↦ ap (asked p) (sym w.in-Err.ensures) ∙ sym w.passes-is
     ] in
@@ -37,4 +37,4 @@ loop-line-smaller g c =
 pub returns : goal.returns
 returns g c =
     let p : Arrow → Bool = g.Q.Question.asks c.args.question.now in
-    sym (c.loop-line.invariant ∙ failing_none (on_arrow p) c.args.file.now c.loop-line.at c.in-default.ensures)
+    sym (c.loop-line.invariant ∙ failing_none (on_arrow p) c.args.file.now c.loop-line.at c.in_default.ensures)

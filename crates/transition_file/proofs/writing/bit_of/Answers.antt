@@ -7,8 +7,8 @@ use Rattle.text.proofs.Picks.{within}
 use Rattle.text.proofs.Tables.{held_length}
 use Rattle.transition_file.proofs.writing.bit_of.Goals as goal
 
-pub overflow-shl-result : goal.overflow-shl-result
-overflow-shl-result c =
+pub overflow_shl-result : goal.overflow_shl-result
+overflow_shl-result c =
     let t = c.args.known.now in
     omega (arith, within (λ m. same_name m c.args.name.now) (held t) c.in-Some.number (sym c.in-Some.ensures), held_length t, t.within)
 

@@ -3,8 +3,8 @@ use Rattle.std.proofs.lemmas.List.{take_more_set}
 use Rattle.abstraction.proofs.Adding.{free, small_more}
 use Rattle.abstraction.proofs.sheet.Sheet.add.Goals as goal
 
-pub invariant-of-self : goal.invariant-of-self
-invariant-of-self c =
+pub invariant_of-self : goal.invariant_of-self
+invariant_of-self c =
     let s = c.args.self.now in
     let f = free s c.args.seen c.args.shown (sym c.in-None.ensures) in
     let within : s.len < length s.rules = omega (arith, f.room, s.whole) in

@@ -9,4 +9,4 @@ loop-k-preserved c =
     let s = c.args.self.now in
     let k = c.loop-k.k in
     let within : k < length s.rules = omega (arith, s.whole, s.few, c.loop-k-test.true) in
-    c.add-shown-out.ensures ∙ ap (λ n. with_shown c.args.events n (get_or s.rules k blank)) c.loop-k.invariant ∙ sym (fold_more (with_shown c.args.events) 0 s.rules k blank within)
+    c.add_shown-out.ensures ∙ ap (λ n. with_shown c.args.events n (get_or s.rules k blank)) c.loop-k.invariant ∙ sym (fold_more (with_shown c.args.events) 0 s.rules k blank within)

@@ -6,10 +6,10 @@ use Rattle.drafts.specs.DraftsHeld.{drafted}
 use Rattle.drafts.specs.EntriesHeld.{entries_read}
 use Rattle.drafts.proofs.draft.Draft.push.Goals as goal
 
-pub returns-else-self-lt-MAX-NODES : goal.returns-else-self-lt-MAX-NODES
-returns-else-self-lt-MAX-NODES c =
+pub returns-else-self-lt-MAX_NODES : goal.returns-else-self-lt-MAX_NODES
+returns-else-self-lt-MAX_NODES c =
     let d = c.args.self.now in
-    let full : 64 ≤ d.count = c.if-self-lt-MAX-NODES.false in
+    let full : 64 ≤ d.count = c.if-self-lt-MAX_NODES.false in
     let all : length d.nodes ≤ 65 = omega (arith, d.whole) in
     let some : length d.nodes ≤ d.count = omega (arith, d.whole) in
     let same : take 65 d.nodes ≡ take d.count d.nodes = take_all 65 d.nodes all ∙ sym (take_all d.count d.nodes some) in
