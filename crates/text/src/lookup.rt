@@ -25,7 +25,7 @@ impl Named for Name {
 
 // The index of the last record that is called so.
 pub fn find<T: Named>(records: &[T], name: &Name) -> Option<usize>
-    ensures { result ≡ latest (λ x. same_name (called x) name.now) records.now }
+    ensures { result ≡ latest (λ x. same_name (T.Named.called x) name.now) records.now }
 {
     for i in (0..records.len()).rev() {
         if records[i].is_called(name) {

@@ -10,13 +10,13 @@ loop-i-init g c =
     let p : g.row.T.Denot → Bool = λ x. same_name (g.T.Named.called x) c.args.name.now in
     ap (latest p) (take-length c.args.records.now)
 
-pub returns-then-is-called : goal.returns-then-is-called
-returns-then-is-called g c =
+pub returns-then-is_called : goal.returns-then-is_called
+returns-then-is_called g c =
     let p : g.row.T.Denot → Bool = λ x. same_name (g.T.Named.called x) c.args.name.now in
     let xs = c.args.records.now in
     let i = c.loop-i.i - 1 in
     let back : c.loop-i.i ≡ i + 1 = omega arith in
-    sym (latest_here p xs i c.index-records-i.result (omega arith) c.index-records-i.is (sym c.if-is-called.ensures))
+    sym (latest_here p xs i c.index-records-i.result (omega arith) c.index-records-i.is (sym c.if-is_called.ensures))
     ∙ ap (λ m. latest p (take m xs)) (sym back) ∙ c.loop-i.invariant
 
 pub loop-i-preserved : goal.loop-i-preserved
@@ -25,5 +25,5 @@ loop-i-preserved g c =
     let xs = c.args.records.now in
     let i = c.loop-i.i - 1 in
     let back : c.loop-i.i ≡ i + 1 = omega arith in
-    sym (latest_on p xs i c.index-records-i.result (omega arith) c.index-records-i.is (sym c.if-is-called.ensures))
+    sym (latest_on p xs i c.index-records-i.result (omega arith) c.index-records-i.is (sym c.if-is_called.ensures))
     ∙ ap (λ m. latest p (take m xs)) (sym back) ∙ c.loop-i.invariant

@@ -10,11 +10,11 @@ room k h =
     let few : 8 - k ≤ 7 = omega arith in
     pow-le-pow_right some few
 
-pub overflow-mul-word : goal.overflow-mul-word
-overflow-mul-word c = omega (arith, room c.loop-k.k c.loop-k-test.true)
+pub overflow_mul-word : goal.overflow_mul-word
+overflow_mul-word c = omega (arith, room c.loop-k.k c.loop-k-test.true)
 
-pub overflow-add-word : goal.overflow-add-word
-overflow-add-word c = omega (arith, room c.loop-k.k c.loop-k-test.true)
+pub overflow_add-word : goal.overflow_add-word
+overflow_add-word c = omega (arith, room c.loop-k.k c.loop-k-test.true)
 
 pub loop-k-preserved : goal.loop-k-preserved
 loop-k-preserved c =

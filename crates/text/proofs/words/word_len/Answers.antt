@@ -3,8 +3,8 @@ use Rattle.text.proofs.Runs.{goes_within, word_more, word_stop}
 use Rattle.text.proofs.words.word_len.Goals as goal
 
 -- the byte that the turn passes is one of the text's
-pub overflow-add-end : goal.overflow-add-end
-overflow-add-end c = omega (arith, goes_within c.args.text.now c.loop-end.end (sym c.loop-end-test.ensures))
+pub overflow_add-end : goal.overflow_add-end
+overflow_add-end c = omega (arith, goes_within c.args.text.now c.loop-end.end (sym c.loop-end-test.ensures))
 
 pub loop-end-smaller : goal.loop-end-smaller
 loop-end-smaller c = omega (arith, goes_within c.args.text.now c.loop-end.end (sym c.loop-end-test.ensures))
