@@ -17,7 +17,7 @@ loop-turn-init c =
 pub returns-in_err-listed : goal.returns-in_err-listed
 returns-in_err-listed c =
     let s = c.args.line.now in
-    let r = c.from-residual-in_err-listed in
+    let r = c.from_residual-in_err-listed in
     let p = err_from_is_err_and r.result r.ensures.1 in
     let k = suc (length s) - c.loop-turn.turn in
     let t : k ≡ suc (length s - c.loop-turn.turn) = omega (arith, c.loop-turn-test.true) in

@@ -15,7 +15,7 @@ pub returns-in_err-name : goal.returns-in_err-name
 returns-in_err-name c =
     let it = item_of c.args.item in
     let known = held c.in_ok-names.names in
-    rw c.from-residual-in_err-name.ensures (no_name known it c.in_err-name.ensures ∙ ap (λ o. accepted (option_map held o) it) (sym c.in_ok-names.was))
+    rw c.from_residual-in_err-name.ensures (no_name known it c.in_err-name.ensures ∙ ap (λ o. accepted (option_map held o) it) (sym c.in_ok-names.was))
 
 pub returns-then-is_listed : goal.returns-then-is_listed
 returns-then-is_listed c =

@@ -16,7 +16,7 @@ loop-turn-init c =
 pub returns-in_err-item : goal.returns-in_err-item
 returns-in_err-item c =
     let s = c.args.line.now in
-    let p = err_from_is_err_and c.from-residual.result c.from-residual.ensures.1 in
+    let p = err_from_is_err_and c.from_residual.result c.from_residual.ensures.1 in
     let k = suc (length s) - c.loop-turn.turn in
     let t : k ≡ suc (length s - c.loop-turn.turn) = omega (arith, c.loop-turn-test.true) in
     let f = fold_fault accepted (item_at s) (option_map held c.loop-turn.found) k (length s - c.loop-turn.turn) c.loop-turn.at t _ (sym c.in_err-item.ensures) in

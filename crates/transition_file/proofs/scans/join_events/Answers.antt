@@ -10,7 +10,7 @@ pub returns-in_err-names : goal.returns-in_err-names
 returns-in_err-names c =
     let l = c.in-Some.line in
     let row : Row = record { start = l.start; text = l.text.now; ended = l.ended } in
-    rw c.from-residual.ensures (sym (c.loop-line.invariant ∙ line_full c.args.file.now c.loop-line.at (held c.loop-line.names) row _ c.in-Some.ensures c.in_err-names.ensures))
+    rw c.from_residual.ensures (sym (c.loop-line.invariant ∙ line_full c.args.file.now c.loop-line.at (held c.loop-line.names) row _ c.in-Some.ensures c.in_err-names.ensures))
 
 pub loop-line-preserved : goal.loop-line-preserved
 loop-line-preserved c =

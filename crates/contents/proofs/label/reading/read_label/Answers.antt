@@ -14,7 +14,7 @@ pub returns-in_err-names : goal.returns-in_err-names
 returns-in_err-names c =
     let s = c.args.label.now in
     let no_names = no_name s _ _ _ c.loop-count.invariant _ c.byte_from-end.ensures (sym c.in_err-names.ensures) in
-    rw c.from-residual.ensures (sym (label_bad s (sym c.if-same_bytes.ensures) no_names))
+    rw c.from_residual.ensures (sym (label_bad s (sym c.if-same_bytes.ensures) no_names))
 
 pub returns-then-end-label : goal.returns-then-end-label
 returns-then-end-label c =
