@@ -8,7 +8,7 @@ invariant_of-self c =
     let s = c.args.self.now in
     let f = free s c.args.seen c.args.shown (sym c.in-None.ensures) in
     let within : s.len < length s.rules = omega (arith, f.room, s.whole) in
-    (omega (arith, f.room), (length-set s.rules s.len _ ∙ s.whole, (small_more s.rules s.len _ within f.sees f.shows s.small, tt)))
+    record { few = omega (arith, f.room); whole = length-set s.rules s.len _ ∙ s.whole; small = small_more s.rules s.len _ within f.sees f.shows s.small }
 
 pub returns-in-None : goal.returns-in-None
 returns-in-None c =
