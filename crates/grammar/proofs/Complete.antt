@@ -28,16 +28,16 @@ passed : (s close : Symbol) (us : List Symbol) → is s close ≡ false → take
 passed s close us e = ap (λ b. cond b (Some us) None) e
 
 events_start : {l : Level} {t : WrittenEvents} {ts us : List Symbol} (close : Symbol) → NoStart close → SpellsEvents l t ts us → taken close ts ≡ None
-events_start close h (events.or-first d) = events_start close h d
-events_start close h (events.or-more d e) = events_start close h d
+events_start close h (events.or_first d) = events_start close h d
+events_start close h (events.or_more d e) = events_start close h d
 events_start close h (events.and_first d) = events_start close h d
-events_start close h (events.and-more d e) = events_start close h d
+events_start close h (events.and_more d e) = events_start close h d
 events_start close h (events.a_not {ts = ts} d) = passed symbol.Not close ts h.a_not
 events_start close h (events.a_true {ts = ts}) = passed symbol.True close ts h.a_true
 events_start close h (events.a_false {ts = ts}) = passed symbol.False close ts h.a_false
 events_start close h (events.a_tau {ts = ts}) = passed symbol.Tau close ts h.a_tau
 events_start close h (events.a_name {n = n} {ts = ts}) = passed (symbol.Name n) close ts (h.a_name n)
-events_start close h (events.a-group {ts = ts} d) = passed symbol.OpenRound close ts h.an_open
+events_start close h (events.a_group {ts = ts} d) = passed symbol.OpenRound close ts h.an_open
 
 -- the inside of a pair of marks, whose closing mark is no `or` and no `and` and starts no event formula
 module _ (close : Symbol) (self : is close close ≡ true) (no_or : is close symbol.Or ≡ false) (no-and : is close symbol.And ≡ false) (no_start : NoStart close) where
@@ -77,24 +77,24 @@ until_start true us = refl
 until_start false us = refl
 
 formula_start : {l : Level} {t : Written} {ts us : List Symbol} → Spells l t ts us → taken symbol.OpenCurly ts ≡ None
-formula_start (formula.or-first d) = formula_start d
-formula_start (formula.or-more d e) = formula_start d
+formula_start (formula.or_first d) = formula_start d
+formula_start (formula.or_more d e) = formula_start d
 formula_start (formula.and_first d) = formula_start d
-formula_start (formula.and-more d e) = formula_start d
+formula_start (formula.and_more d e) = formula_start d
 formula_start formula.a_true = refl
 formula_start formula.a_false = refl
-formula_start formula.a-final = refl
+formula_start formula.a_final = refl
 formula_start formula.a_name = refl
 formula_start (formula.a_not d) = refl
-formula_start (formula.an-ef d) = refl
-formula_start (formula.an-ag d) = refl
-formula_start (formula.a-diamond g d) = refl
-formula_start (formula.a-box g d) = refl
-formula_start (formula.an-ex g d) = refl
-formula_start (formula.an-ax g d) = refl
-formula_start (formula.a-group d) = refl
-formula_start (formula.a-binder {w} d e) = binder_start w _
-formula_start (formula.an-until {exists} d m e) = until_start exists _
+formula_start (formula.an_ef d) = refl
+formula_start (formula.an_ag d) = refl
+formula_start (formula.a_diamond g d) = refl
+formula_start (formula.a_box g d) = refl
+formula_start (formula.an_ex g d) = refl
+formula_start (formula.an_ax g d) = refl
+formula_start (formula.a_group d) = refl
+formula_start (formula.a_binder {w} d e) = binder_start w _
+formula_start (formula.an_until {exists} d m e) = until_start exists _
 
 -- where a formula stops
 off : (b c : Bool) → T (not (b || c)) → (b ≡ false) × (c ≡ false)
@@ -133,24 +133,24 @@ square : NoStart symbol.CloseSquare
 square = record { a_not = refl; a_true = refl; a_false = refl; a_tau = refl; an_open = refl; a_name = λ n. refl }
 
 goes : {l : Level} {t : Written} {ts us : List Symbol} → Spells l t ts us → Goes l t ts us
-goes (formula.or-first {t} {us = us} d) = λ none o h. whole_of (goes d (Some (t, us)) (and_end none)) h
-goes (formula.or-more {u = u} {vs = vs} d e) = λ none o h. goes d refl o (or_of refl (goes e (Some (u, vs)) (and_end none)) h)
+goes (formula.or_first {t} {us = us} d) = λ none o h. whole_of (goes d (Some (t, us)) (and_end none)) h
+goes (formula.or_more {u = u} {vs = vs} d e) = λ none o h. goes d refl o (or_of refl (goes e (Some (u, vs)) (and_end none)) h)
 goes (formula.and_first d) = λ o h. joined_of (goes d) h
-goes (formula.and-more d e) = λ o h. goes d o (and_of refl (goes e) h)
+goes (formula.and_more d e) = λ o h. goes d o (and_of refl (goes e) h)
 goes formula.a_true = true_of
 goes formula.a_false = false_of
-goes formula.a-final = final_of
+goes formula.a_final = final_of
 goes formula.a_name = name_of
 goes (formula.a_not d) = not_on (applied_of negation (goes d))
-goes (formula.an-ef d) = ef_on (applied_of eventually (goes d))
-goes (formula.an-ag d) = ag_on (applied_of always (goes d))
-goes (formula.a-diamond {g} g-spells d) = diamond_on (inside_read symbol.CloseAngle refl refl refl angle g-spells) (applied_of (diamond g) (goes d))
-goes (formula.a-box {g} g-spells d) = box_on (inside_read symbol.CloseSquare refl refl refl square g-spells) (applied_of (box_all g) (goes d))
-goes (formula.an-ex {g} g-spells d) = ex_on (braces_read g-spells (formula_start d)) (applied_of (diamond g) (goes d))
-goes (formula.an-ax {g} g-spells d) = ax_on (braces_read g-spells (formula_start d)) (applied_of (all_next g) (goes d))
-goes (formula.a-group {t} {us = us} d) = group_on (grouped_of (goes d refl (Some (t, symbol.CloseRound ∷ us)) (or_end refl)) refl)
-goes (formula.a-binder {w} {t = t} {us = us} d h) = binder_on w (bound_of w refl (goes d (stops_and us h) (Some (t, us)) (or_end (stops_or us h))))
-goes (formula.an-until {exists} {t = t} {u = u} {us = us} {ws = ws} d m e) =
+goes (formula.an_ef d) = ef_on (applied_of eventually (goes d))
+goes (formula.an_ag d) = ag_on (applied_of always (goes d))
+goes (formula.a_diamond {g} g-spells d) = diamond_on (inside_read symbol.CloseAngle refl refl refl angle g-spells) (applied_of (diamond g) (goes d))
+goes (formula.a_box {g} g-spells d) = box_on (inside_read symbol.CloseSquare refl refl refl square g-spells) (applied_of (box_all g) (goes d))
+goes (formula.an_ex {g} g-spells d) = ex_on (braces_read g-spells (formula_start d)) (applied_of (diamond g) (goes d))
+goes (formula.an_ax {g} g-spells d) = ax_on (braces_read g-spells (formula_start d)) (applied_of (all_next g) (goes d))
+goes (formula.a_group {t} {us = us} d) = group_on (grouped_of (goes d refl (Some (t, symbol.CloseRound ∷ us)) (or_end refl)) refl)
+goes (formula.a_binder {w} {t = t} {us = us} d h) = binder_on w (bound_of w refl (goes d (stops_and us h) (Some (t, us)) (or_end (stops_or us h))))
+goes (formula.an_until {exists} {t = t} {u = u} {us = us} {ws = ws} d m e) =
     until_on exists (halves_of exists refl (goes d (middle_and m) (Some (t, us)) (or_end (middle_or m))) (middle_read m (formula_start e))
     (goes e refl (Some (u, symbol.CloseSquare ∷ ws)) (or_end refl)) refl)
 

@@ -172,29 +172,29 @@ module _ (f : Sort → List Symbol → Reading Written) (h : (s : Sort) (ts : Li
   bodied : (w : Bool) (us : List Symbol) (t : Written) (vs : List Symbol) → Body w t us vs → Spells prefixes t (binder_symbol w ∷ us) vs
   bodied w us t vs b =
       subst (λ x. Spells prefixes x (binder_symbol w ∷ us) vs) (sym b.is_over)
-      (subst (λ xs. Spells prefixes (binder w b.name b.part) (binder_symbol w ∷ xs) vs) (sym b.starts) (formula.a-binder b.spells b.ends))
+      (subst (λ xs. Spells prefixes (binder w b.name b.part) (binder_symbol w ∷ xs) vs) (sym b.starts) (formula.a_binder b.spells b.ends))
 
   halved : (exists : Bool) (us : List Symbol) (t : Written) (vs : List Symbol) → Halves exists t us vs → Spells prefixes t (until_symbol exists ∷ us) vs
   halved exists us t vs k =
       subst (λ x. Spells prefixes x (until_symbol exists ∷ us) vs) (sym k.is_over)
-      (subst (λ xs. Spells prefixes (two k.between k.left k.right) (until_symbol exists ∷ xs) vs) (sym k.starts) (formula.an-until k.first k.second k.third))
+      (subst (λ xs. Spells prefixes (two k.between k.left k.right) (until_symbol exists ∷ xs) vs) (sym k.starts) (formula.an_until k.first k.second k.third))
 
   start_derives : (s : Symbol) (us : List Symbol) → Of (λ t vs. Spells prefixes t (s ∷ us) vs) (start f s us)
   start_derives symbol.End us = tt
-  start_derives symbol.OpenRound us = map_of (λ t vs. Spells disjunctions t us (symbol.CloseRound ∷ vs)) (λ t vs. Spells prefixes t (symbol.OpenRound ∷ us) vs) (f grouped us) (λ t vs d. formula.a-group d) (h grouped us)
+  start_derives symbol.OpenRound us = map_of (λ t vs. Spells disjunctions t us (symbol.CloseRound ∷ vs)) (λ t vs. Spells prefixes t (symbol.OpenRound ∷ us) vs) (f grouped us) (λ t vs d. formula.a_group d) (h grouped us)
   start_derives symbol.CloseRound us = tt
   start_derives symbol.OpenSquare us =
-      guarded box_all symbol.OpenSquare us (λ g vs. SpellsInside symbol.CloseSquare g us vs) (read_inside symbol.CloseSquare us) (inside_spells symbol.CloseSquare tt us) (λ g vs t ws e d. formula.a-box e d)
+      guarded box_all symbol.OpenSquare us (λ g vs. SpellsInside symbol.CloseSquare g us vs) (read_inside symbol.CloseSquare us) (inside_spells symbol.CloseSquare tt us) (λ g vs t ws e d. formula.a_box e d)
   start_derives symbol.CloseSquare us = tt
   start_derives symbol.OpenCurly us = tt
   start_derives symbol.CloseCurly us = tt
   start_derives symbol.OpenAngle us =
-      guarded diamond symbol.OpenAngle us (λ g vs. SpellsInside symbol.CloseAngle g us vs) (read_inside symbol.CloseAngle us) (inside_spells symbol.CloseAngle tt us) (λ g vs t ws e d. formula.a-diamond e d)
+      guarded diamond symbol.OpenAngle us (λ g vs. SpellsInside symbol.CloseAngle g us vs) (read_inside symbol.CloseAngle us) (inside_spells symbol.CloseAngle tt us) (λ g vs t ws e d. formula.a_diamond e d)
   start_derives symbol.CloseAngle us = tt
   start_derives symbol.Colon us = tt
   start_derives symbol.True us = formula.a_true
   start_derives symbol.False us = formula.a_false
-  start_derives symbol.Final us = formula.a-final
+  start_derives symbol.Final us = formula.a_final
   start_derives symbol.Not us = operand negation symbol.Not us (λ t vs d. formula.a_not d)
   start_derives symbol.And us = tt
   start_derives symbol.Or us = tt
@@ -205,23 +205,23 @@ module _ (f : Sort → List Symbol → Reading Written) (h : (s : Sort) (ts : Li
   start_derives symbol.All us = map_of (λ t vs. Halves false t us vs) (λ t vs. Spells prefixes t (symbol.All ∷ us) vs) (f (halves false) us) (halved false us) (h (halves false) us)
   start_derives symbol.Until us = tt
   start_derives symbol.ExistsNext us =
-      guarded diamond symbol.ExistsNext us (λ g vs. SpellsBraces g us vs) (read_braces us) (braces_spell us) (λ g vs t ws e d. formula.an-ex e d)
+      guarded diamond symbol.ExistsNext us (λ g vs. SpellsBraces g us vs) (read_braces us) (braces_spell us) (λ g vs t ws e d. formula.an_ex e d)
   start_derives symbol.AllNext us =
-      guarded all_next symbol.AllNext us (λ g vs. SpellsBraces g us vs) (read_braces us) (braces_spell us) (λ g vs t ws e d. formula.an-ax e d)
-  start_derives symbol.Eventually us = operand eventually symbol.Eventually us (λ t vs d. formula.an-ef d)
-  start_derives symbol.Always us = operand always symbol.Always us (λ t vs d. formula.an-ag d)
+      guarded all_next symbol.AllNext us (λ g vs. SpellsBraces g us vs) (read_braces us) (braces_spell us) (λ g vs t ws e d. formula.an_ax e d)
+  start_derives symbol.Eventually us = operand eventually symbol.Eventually us (λ t vs d. formula.an_ef d)
+  start_derives symbol.Always us = operand always symbol.Always us (λ t vs d. formula.an_ag d)
   start_derives symbol.Silent us = tt
   start_derives (symbol.Name n) us = formula.a_name
 
   turn_derives : (s : Sort) (ts : List Symbol) → Of (λ t us. Derives s t ts us) (turn f s ts)
   turn_derives whole ts =
       then_of (λ t us. Derives joined t ts us) (λ t us. Derives whole t ts us) (f joined ts) (λ t us. f (more_or t) us) (h joined ts)
-      (λ t us d. map_of (λ y vs. Derives (more_or t) y us vs) (λ y vs. Derives whole y ts vs) (f (more_or t) us) (λ y vs e. e ts d.1 (formula.or-first d.0)) (h (more_or t) us))
+      (λ t us d. map_of (λ y vs. Derives (more_or t) y us vs) (λ y vs. Derives whole y ts vs) (f (more_or t) us) (λ y vs e. e ts d.1 (formula.or_first d.0)) (h (more_or t) us))
   turn_derives (more_or t) ts =
       taken_of (λ y vs. Derives (more_or t) y ts vs) symbol.Or tt ts _ (got t ts)
       (λ us e. then_of (λ u vs. Derives joined u us vs) (λ y vs. Derives (more_or t) y ts vs) (f joined us) (λ u vs. f (more_or (two disjunction t u)) vs) (h joined us)
       (λ u vs d. map_of (λ y ws. Derives (more_or (two disjunction t u)) y vs ws) (λ y ws. Derives (more_or t) y ts ws) (f (more_or (two disjunction t u)) vs)
-      (λ y ws k from none c. k from d.1 (formula.or-more (subst (λ xs. Spells disjunctions t from xs) e c) d.0)) (h (more_or (two disjunction t u)) vs)))
+      (λ y ws k from none c. k from d.1 (formula.or_more (subst (λ xs. Spells disjunctions t from xs) e c) d.0)) (h (more_or (two disjunction t u)) vs)))
       (λ e from none c. (c, none_stops ts e none))
   turn_derives joined ts =
       then_of (λ t us. Derives prefixed t ts us) (λ t us. Derives joined t ts us) (f prefixed ts) (λ t us. f (more_and t) us) (h prefixed ts)
@@ -230,7 +230,7 @@ module _ (f : Sort → List Symbol → Reading Written) (h : (s : Sort) (ts : Li
       taken_of (λ y vs. Derives (more_and t) y ts vs) symbol.And tt ts _ (got t ts)
       (λ us e. then_of (λ u vs. Derives prefixed u us vs) (λ y vs. Derives (more_and t) y ts vs) (f prefixed us) (λ u vs. f (more_and (two conjunction t u)) vs) (h prefixed us)
       (λ u vs d. map_of (λ y ws. Derives (more_and (two conjunction t u)) y vs ws) (λ y ws. Derives (more_and t) y ts ws) (f (more_and (two conjunction t u)) vs)
-      (λ y ws k from c. k from (formula.and-more (subst (λ xs. Spells conjunctions t from xs) e c) d)) (h (more_and (two conjunction t u)) vs)))
+      (λ y ws k from c. k from (formula.and_more (subst (λ xs. Spells conjunctions t from xs) e c) d)) (h (more_and (two conjunction t u)) vs)))
       (λ e from c. (c, e))
   turn_derives prefixed [] = tt
   turn_derives prefixed (s ∷ us) = start_derives s us
