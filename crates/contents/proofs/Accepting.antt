@@ -1,12 +1,11 @@
 -- An entry of the line of names, case by case. Assumes nothing.
-use Rattle.std.proofs.Common.{◌≡◌, ℕ, suc, ◌+◌, ◌<◌, ◌≤◌, Bool, true, false, cond, ◌&&◌, eqb, ltb, leb, List, [], ◌∷◌, ◌++◌, length, is_some, Some, None, Option, sym, refl, ap, ◌∙◌, ⊎_elim, arith, le-leb}
+use Rattle.std.proofs.Common.{◌≡◌, ℕ, ◌<◌, Bool, true, false, cond, ◌&&◌, eqb, ltb, leb, List, [], ◌∷◌, ◌++◌, length, is_some, Some, None, Option, sym, refl, ap, ◌∙◌, ⊎_elim, arith, le-leb}
 use borrow.Author.Tests.{lt-leb}
 use Rattle.std.proofs.lemmas.List.{length_push}
-use Rattle.std.proofs.lemmas.Bool.{lt-ltb, le-ltb, and_left, cases_lt}
-use Rattle.std.specs.Option.{option_map}
+use Rattle.std.proofs.lemmas.Bool.{lt-ltb, le-ltb, cases_lt}
 use Rattle.layouts.specs.Layouts.{Item}
 use Rattle.text.specs.Names.{named}
-use Rattle.text.specs.Numbering.{names_limit, number_of, join_one, join_all}
+use Rattle.text.specs.Numbering.{names_limit, number_of, join_all}
 use Rattle.text.specs.declared.names.Name.{Name}
 use Rattle.contents.specs.NamesLine.{new_name, accepted}
 

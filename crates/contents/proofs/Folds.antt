@@ -1,5 +1,5 @@
 -- A fold over the parts of a line that repeat, part by part. Assumes nothing.
-use Rattle.std.proofs.Common.{◌≡◌, ℕ, zero, suc, ◌+◌, ◌-◌, ◌<◌, ◌≤◌, List, [], ◌∷◌, Some, None, Ok, Err, fold, Option, Result, sym, refl, ap, ◌∙◌, arith}
+use Rattle.std.proofs.Common.{◌≡◌, ℕ, suc, List, ◌∷◌, Some, None, Ok, Err, fold, Option, Result, refl, ap, ◌∙◌}
 use Rattle.layouts.specs.declared.fault.LineFault.{LineFault}
 use Rattle.layouts.specs.declared.fault.LineFault.TheVariants.{Other}
 use Rattle.layouts.specs.Pieces.{and_then}

@@ -1,10 +1,10 @@
 -- A line of labels as a fold over its numbers. Assumes nothing.
-use Rattle.std.proofs.Common.{◌≡◌, ℕ, suc, List, [], ◌∷◌, length, Some, Ok, Err, fold, Option, Result, sym, refl, ap, ◌∙◌}
+use Rattle.std.proofs.Common.{◌≡◌, ℕ, suc, List, length, Some, Ok, Err, fold, Option, Result, refl, ap, ◌∙◌}
 use Rattle.std.specs.Option.{option_map}
 use Rattle.layouts.specs.declared.number.Number.{Number}
 use Rattle.layouts.specs.declared.fault.LineFault.{LineFault}
 use Rattle.layouts.specs.Pieces.{and_then}
-use Rattle.layouts.specs.Layouts.{repeated, state_at, listed_at, Marks, marks_of}
+use Rattle.layouts.specs.Layouts.{repeated, state_at, listed_at}
 use Rattle.contents.specs.NamesLine.{map_ok}
 use Rattle.contents.specs.MarksLine.{add_mark, marked_by, marked_of}
 use Rattle.contents.specs.declared.marks.Listing.{Listing}

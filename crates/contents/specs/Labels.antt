@@ -1,5 +1,5 @@
 -- The names in the label of a transition. Assumes nothing.
-use Rattle.std.specs.Prelude.{ℕ, Bool, true, false, cond, List, [], ◌∷◌, ◌++◌, length, Some, None, codes, Option, ◌==◌, nat_le}
+use Rattle.std.specs.Prelude.{ℕ, cond, List, [], ◌∷◌, ◌++◌, length, Some, None, codes, Option, ◌==◌, nat_le}
 use Rattle.text.specs.Words.{same}
 use Rattle.text.specs.Names.{named}
 use Rattle.text.specs.declared.names.Name.{Name}

@@ -1,7 +1,7 @@
 -- Nodes of a formula while it is read. Assumes nothing.
-use Rattle.std.specs.Prelude.{ℕ, suc, ◌+◌, Bool, true, false, cond, not, ◌||◌, List, [], ◌∷◌, ◌++◌, map, length, Some, None, Option, nat_lt, slice_index_or}
+use Rattle.std.specs.Prelude.{ℕ, suc, ◌+◌, Bool, true, false, cond, List, [], ◌∷◌, ◌++◌, map, length, Some, None, Option, nat_lt, slice_index_or}
 use Rattle.text.specs.Numbering.{number_of}
-use Rattle.text.specs.Names.{name_of, same_name}
+use Rattle.text.specs.Names.{same_name}
 use Rattle.text.specs.Lookup.{latest}
 use Rattle.text.specs.declared.names.Name.{Name}
 use Rattle.logic.specs.declared.nodes.Guard.{Guard}
@@ -10,7 +10,7 @@ use Rattle.logic.specs.declared.nodes.Kind.{Kind}
 use Rattle.logic.specs.declared.nodes.Kind.TheVariants as kind
 use Rattle.logic.specs.declared.nodes.Node.{Node}
 use Rattle.logic.specs.Limits.{max_nodes, max_depth}
-use Rattle.trees.specs.Trees.{Leaf, verum, falsum, final, named, Unary, negation, diamond, box_all, all_next, eventually, always, Binary, conjunction, disjunction, exists_until, all_until, exists_until_by, all_until_by, Tree, leaf, one, two, binder}
+use Rattle.trees.specs.Trees.{Leaf, verum, falsum, final, named, Unary, negation, diamond, box_all, all_next, eventually, always, Binary, conjunction, disjunction, exists_until, all_until, exists_until_by, all_until_by, leaf, one, two, binder}
 use Rattle.trees.specs.Numbering.{sign_below, binder_kind}
 use Rattle.trees.specs.Lawful.{same_sign}
 use Rattle.grammar.specs.Grammar.{Written}

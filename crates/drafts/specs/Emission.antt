@@ -1,8 +1,8 @@
 -- What is left in a draft by a formula that is read from its start. Assumes nothing.
-use Rattle.std.specs.Prelude.{◌≡◌, ℕ, Bool, true, not, ◌&&◌, T, List, [], nat_le}
+use Rattle.std.specs.Prelude.{◌≡◌, true, not, ◌&&◌, T, List, [], nat_le}
 use Rattle.text.specs.declared.names.Name.{Name}
 use Rattle.logic.specs.Limits.{max_nodes, max_entries}
-use Rattle.trees.specs.Trees.{size, entries_size}
+use Rattle.trees.specs.Trees.{size}
 use Rattle.trees.specs.Numbering.{nodes_by_depth, entries_of}
 use Rattle.trees.specs.Lawful.{lawful}
 use Rattle.grammar.specs.Grammar.{Written}

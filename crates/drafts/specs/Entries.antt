@@ -8,7 +8,7 @@ use Rattle.logic.specs.declared.events.EventFormula.TheVariants as entry
 use Rattle.logic.specs.declared.nodes.Guard.{Guard}
 use Rattle.logic.specs.declared.nodes.Guard.TheVariants.{Any, By}
 use Rattle.logic.specs.Limits.{max_entries}
-use Rattle.trees.specs.Trees.{EventTree, top, bottom, tau, event, not_event, both_events, either_events}
+use Rattle.trees.specs.Trees.{top, bottom, tau, event, not_event, both_events, either_events}
 use Rattle.grammar.specs.Grammar.{WrittenEvents}
 
 -- entries by number, how many were written, up to one more than there may be, and whether a name was not known

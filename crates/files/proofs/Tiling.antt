@@ -1,11 +1,11 @@
 -- The lines of a file one by one, and how they make up the file. Assumes nothing.
-use Rattle.std.proofs.Common.{◌≡◌, ℕ, zero, suc, ◌+◌, ◌-◌, ◌<◌, ◌≤◌, Bool, true, false, cond, eqb, ltb, List, [], ◌∷◌, ◌++◌, length, get_or, take, drop, Some, None, Option, sym, refl, ap, ◌∙◌, subst, arith, length-drop, drop-drop, eq-eqb, ne_eqb, true-eqb}
-use Rattle.std.proofs.lemmas.Bool.{lt-ltb, le-ltb, ltb-true, ltb-false, cond-true, cond-false}
-use Rattle.std.proofs.lemmas.List.{drop_more, drop_all}
+use Rattle.std.proofs.Common.{◌≡◌, ℕ, suc, ◌+◌, ◌<◌, ◌≤◌, Bool, true, false, cond, eqb, ltb, List, [], ◌∷◌, length, take, drop, Some, None, sym, refl, ap, ◌∙◌, subst, arith, length-drop, drop-drop, true-eqb}
+use Rattle.std.proofs.lemmas.Bool.{lt-ltb, le-ltb, ltb-true, ltb-false}
+use Rattle.std.proofs.lemmas.List.{drop_all}
 use Rattle.std.specs.List.{flat_map, AllByRecursion as All}
 use Rattle.layouts.specs.Pieces.{before}
 use Rattle.layouts.proofs.Matching.{before_short}
-use Rattle.files.specs.Lines.{Row, line_at, lead, rows_from, rows_of, line_of, end_of, printed_row, Whole, Follow, RowsTile}
+use Rattle.files.specs.Lines.{Row, line_at, lead, rows_from, line_of, end_of, printed_row, Whole, Follow, RowsTile}
 
 -- the first byte b from a place on, or the end, is not past the end
 pub end_inside : (b : ℕ) (s : List ℕ) (i end : ℕ) → end ≡ i + before b (drop i s) → i ≤ length s → end ≤ length s

@@ -1,22 +1,21 @@
 -- What is stored in a formula are the nodes and entries of its tree. Assumes nothing.
-use Rattle.std.proofs.Common.{◌≡◌, ℕ, ◌-◌, ◌<◌, ◌≤◌, true, T, ◌↔◌, List, [], ◌++◌, length, take, replicate, sym, refl, ap, ◌∙◌, subst, arith}
+use Rattle.std.proofs.Common.{◌≡◌, ℕ, ◌≤◌, true, T, ◌↔◌, [], length, take, sym, refl, ap, ◌∙◌, subst, arith}
 use Rattle.std.proofs.lemmas.List.{take_at}
 use denote.Struct.Record.{values_one}
-use Rattle.logic.specs.declared.nodes.Node.{Node}
 use Rattle.logic.specs.contracts.nodes.Node as stored-node
 use Rattle.logic.specs.contracts.events.EventFormula as stored-entry
 use Rattle.logic.specs.Laid.{Laid, Convex}
 use Rattle.logic.specs.Limits.{max_depth}
 use Rattle.trees.specs.Trees.{size, inner, entries_size}
-use Rattle.trees.specs.Numbering.{Term, nodes_of, entries_of}
-use Rattle.trees.specs.Lawful.{lawful, closed, node_at, Lies}
-use Rattle.trees.specs.Reading.{SameNode, SameNodes}
+use Rattle.trees.specs.Numbering.{nodes_of, entries_of}
+use Rattle.trees.specs.Lawful.{closed, node_at}
+use Rattle.trees.specs.Reading.{SameNode}
 use Rattle.trees.proofs.Lengths.{nodes_length, entries_length}
 use Rattle.trees.proofs.Lying.{lawful_lie}
 use Rattle.trees.proofs.Telling.{nodes_tell}
 use Rattle.trees.proofs.Variables.{both}
 use Rattle.formulas.specs.Stored.{nodes_filled, entries_filled}
-use Rattle.formulas.specs.Formulas.{nodes_in, entries_in, node_count, root_of, node_in, tree_of, LiesWell, SameFormulas, SameNodesSameFormula}
+use Rattle.formulas.specs.Formulas.{nodes_in, entries_in, root_of, node_in, tree_of, LiesWell, SameFormulas}
 use Rattle.formulas.specs.declared.formula.Formula.{Formula}
 use Rattle.formulas.specs.contracts.formula.Formula as stored
 

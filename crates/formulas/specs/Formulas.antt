@@ -1,12 +1,12 @@
 -- A formula, by number, and what holds of every formula. Assumes nothing.
-use Rattle.std.specs.Prelude.{◌≡◌, ℕ, ◌-◌, ◌<◌, ◌≤◌, Bool, true, ◌↔◌, List, length, take}
+use Rattle.std.specs.Prelude.{◌≡◌, ℕ, ◌-◌, ◌<◌, ◌≤◌, Bool, true, ◌↔◌, List, take}
 use Rattle.logic.specs.declared.events.EventFormula.{EventFormula}
 use Rattle.logic.specs.declared.nodes.Guard.{Guard}
 use Rattle.logic.specs.declared.nodes.Guard.TheVariants.{Any, By}
 use Rattle.logic.specs.declared.nodes.Node.{Node}
 use Rattle.logic.specs.Events.{satisfies}
 use Rattle.logic.specs.Laid.{Laid, Convex}
-use Rattle.logic.specs.Limits.{max_nodes, max_entries, max_depth}
+use Rattle.logic.specs.Limits.{max_nodes, max_depth}
 use Rattle.trees.specs.Numbering.{Term}
 use Rattle.trees.specs.Lawful.{node_at}
 use Rattle.trees.specs.Reading.{SameNode}

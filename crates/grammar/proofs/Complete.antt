@@ -1,15 +1,15 @@
 -- All that the grammar spells is read. Assumes nothing.
-use Rattle.std.proofs.Common.{◌≡◌, Bool, true, false, cond, not, ◌||◌, T, List, [], ◌∷◌, Some, None, Option, sym, refl, ap, ◌∙◌, subst, arith}
+use Rattle.std.proofs.Common.{◌≡◌, Bool, true, false, cond, not, ◌||◌, T, List, [], ◌∷◌, Some, None, Option, refl, ap, ◌∙◌}
 use Rattle.text.specs.declared.names.Name.{Name}
 use Rattle.symbols.specs.declared.Symbol.{Symbol}
 use Rattle.symbols.specs.declared.Symbol.TheVariants as symbol
 use Rattle.symbols.specs.Symbols.{is, taken}
 use Rattle.trees.specs.Trees.{negation, diamond, box_all, all_next, eventually, always, Binary}
-use Rattle.grammar.specs.Grammar.{WrittenEvents, Written, Level, disjunctions, conjunctions, prefixes, SpellsEvents, SpellsInside, empty, filled, SpellsBraces, absent, present, plain_until, until_by, SpellsMiddle, no_braces, braces_before, braces_both, until_symbol, binder_symbol, stops, Spells, SpellsAll}
+use Rattle.grammar.specs.Grammar.{WrittenEvents, Written, Level, disjunctions, conjunctions, prefixes, SpellsEvents, SpellsInside, empty, filled, SpellsBraces, absent, present, SpellsMiddle, no_braces, braces_before, braces_both, until_symbol, binder_symbol, stops, Spells, SpellsAll}
 use Rattle.grammar.specs.Grammar.{SpellsEvents as events}
 use Rattle.grammar.specs.Grammar.{Spells as formula}
 use Rattle.grammar.specs.EventParsing.{Reading, refused, got, and_then, if_taken, read_events}
-use Rattle.grammar.specs.Parsing.{shut, read_inside, read_braces, until_with, behind_until, read_middle, read_bound, Sort, whole, more_or, joined, more_and, prefixed, at_end, tree_of}
+use Rattle.grammar.specs.Parsing.{shut, read_inside, read_braces, until_with, behind_until, read_middle, whole, more_or, joined, more_and, prefixed, at_end, tree_of}
 use Rattle.grammar.specs.Settling.{Settles}
 use Rattle.grammar.proofs.EventGrammar.{events_read}
 use Rattle.grammar.proofs.Turns.{formula_settled}

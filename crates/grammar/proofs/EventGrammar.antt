@@ -1,12 +1,12 @@
 -- The readings of event formulas follow the grammar, and all that it spells is read. Assumes nothing.
-use Rattle.std.proofs.Common.{◌≡◌, ℕ, zero, suc, Bool, true, false, cond, List, [], ◌∷◌, Some, None, Option, sym, refl, ap, ◌∙◌, subst}
+use Rattle.std.proofs.Common.{◌≡◌, ℕ, zero, suc, List, [], ◌∷◌, Some, None, Option, refl, subst}
 use Rattle.symbols.specs.declared.Symbol.{Symbol}
 use Rattle.symbols.specs.declared.Symbol.TheVariants as symbol
-use Rattle.symbols.specs.Symbols.{is, taken}
+use Rattle.symbols.specs.Symbols.{taken}
 use Rattle.symbols.proofs.Telling.{IsPlain}
 use Rattle.trees.specs.Trees.{not_event, both_events, either_events}
 use Rattle.grammar.specs.Grammar.{WrittenEvents, Level, disjunctions, conjunctions, prefixes, SpellsEvents, or_first, or_more, and_first, and_more, a_not, a_true, a_false, a_tau, a_name, a_group}
-use Rattle.grammar.specs.EventParsing.{Reading, spent, refused, got, and_then, if_taken, EventSort, whole, more_or, joined, more_and, single, closed_events, start_events, single_events, turn_events, events_in, read_events}
+use Rattle.grammar.specs.EventParsing.{Reading, spent, refused, got, and_then, if_taken, EventSort, whole, more_or, joined, more_and, single, closed_events, start_events, turn_events, events_in, read_events}
 use Rattle.grammar.specs.Settling.{SettlesEvents}
 use Rattle.grammar.proofs.Readings.{taken_first}
 use Rattle.grammar.proofs.EventTurns.{events_settled}

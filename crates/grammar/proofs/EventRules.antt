@@ -1,12 +1,12 @@
 -- How readings of event formulas settle, rule by rule. Assumes nothing.
-use Rattle.std.proofs.Common.{◌≡◌, ℕ, suc, ◌+◌, ◌≤◌, List, [], ◌∷◌, Some, None, Option, sym, refl, ap, ◌∙◌, subst, arith}
+use Rattle.std.proofs.Common.{◌≡◌, ℕ, suc, ◌+◌, ◌≤◌, List, [], ◌∷◌, Some, None, Option, refl, ap, ◌∙◌, arith}
 use Rattle.text.specs.declared.names.Name.{Name}
 use Rattle.symbols.specs.declared.Symbol.{Symbol}
 use Rattle.symbols.specs.declared.Symbol.TheVariants as symbol
 use Rattle.symbols.specs.Symbols.{taken}
 use Rattle.trees.specs.Trees.{top, bottom, tau, event, not_event, both_events, either_events}
 use Rattle.grammar.specs.Grammar.{WrittenEvents}
-use Rattle.grammar.specs.EventParsing.{Reading, refused, got, and_then, if_taken, EventSort, whole, more_or, joined, more_and, single, closed_events, start_events, turn_events, events_in}
+use Rattle.grammar.specs.EventParsing.{Reading, refused, got, and_then, if_taken, EventSort, whole, more_or, joined, more_and, single, closed_events, turn_events, events_in}
 use Rattle.grammar.specs.Settling.{settled, SettlesEvents}
 use Rattle.grammar.proofs.Readings.{later}
 use Rattle.grammar.proofs.EventTurns.{events_more}

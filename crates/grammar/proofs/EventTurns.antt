@@ -1,13 +1,13 @@
 -- Readings of event formulas: more turns say no less, enough turns settle them, and what settles follows the grammar. Assumes nothing.
-use Rattle.std.proofs.Common.{◌≡◌, ℕ, zero, suc, ◌+◌, ◌*◌, ◌<◌, ◌≤◌, Bool, true, false, cond, List, [], ◌∷◌, length, Some, None, Option, sym, refl, ap, ◌∙◌, subst, arith}
+use Rattle.std.proofs.Common.{◌≡◌, ℕ, zero, suc, ◌+◌, ◌*◌, ◌<◌, ◌≤◌, List, [], ◌∷◌, length, Option, sym, refl, ap, ◌∙◌, arith}
 use Rattle.symbols.specs.declared.Symbol.{Symbol}
 use Rattle.symbols.specs.declared.Symbol.TheVariants as symbol
-use Rattle.symbols.specs.Symbols.{is, taken}
-use Rattle.trees.specs.Trees.{top, bottom, tau, event, not_event, both_events, either_events}
-use Rattle.grammar.specs.Grammar.{WrittenEvents, Level, disjunctions, conjunctions, prefixes, SpellsEvents, or_first, or_more, and_first, and_more, a_not, a_true, a_false, a_tau, a_name, a_group}
-use Rattle.grammar.specs.EventParsing.{Reading, spent, refused, got, and_then, if_taken, EventSort, whole, more_or, joined, more_and, single, closed_events, start_events, single_events, turn_events, events_in, read_events}
+use Rattle.symbols.specs.Symbols.{taken}
+use Rattle.trees.specs.Trees.{not_event, both_events, either_events}
+use Rattle.grammar.specs.Grammar.{WrittenEvents}
+use Rattle.grammar.specs.EventParsing.{Reading, refused, got, EventSort, whole, more_or, joined, more_and, single, closed_events, start_events, turn_events, events_in, read_events}
 use Rattle.grammar.specs.Settling.{settled, SettlesEvents}
-use Rattle.grammar.proofs.Readings.{Below, below_refl, then_below, taken_below, later, Fine, then_fine, fine_more, taken_fine, fine_settled, one_outcome, taken_first}
+use Rattle.grammar.proofs.Readings.{Below, below_refl, then_below, taken_below, later, Fine, then_fine, fine_more, taken_fine, fine_settled, one_outcome}
 
 abbrev Run : Type 0
 Run = EventSort → List Symbol → Reading WrittenEvents

@@ -6,10 +6,10 @@ use Rattle.symbols.specs.declared.Symbol.TheVariants as symbol
 use Rattle.symbols.specs.Symbols.{is, taken}
 use Rattle.symbols.proofs.Telling.{IsPlain}
 use Rattle.trees.specs.Trees.{Unary, negation, diamond, box_all, all_next, eventually, always, Binary, conjunction, disjunction, one, two, binder}
-use Rattle.grammar.specs.Grammar.{WrittenEvents, Written, Level, disjunctions, conjunctions, prefixes, SpellsEvents, SpellsInside, empty, filled, SpellsBraces, absent, present, SpellsMiddle, no_braces, braces_before, braces_both, plain_until, until_symbol, binder_symbol, stops, Spells, SpellsAll}
+use Rattle.grammar.specs.Grammar.{WrittenEvents, Written, disjunctions, conjunctions, prefixes, SpellsEvents, SpellsInside, empty, filled, SpellsBraces, absent, present, SpellsMiddle, no_braces, braces_before, braces_both, plain_until, until_symbol, binder_symbol, stops, Spells, SpellsAll}
 use Rattle.grammar.specs.Grammar.{Spells as formula}
 use Rattle.grammar.specs.EventParsing.{Reading, spent, refused, got, and_then, if_taken, read_events}
-use Rattle.grammar.specs.Parsing.{shut, read_inside, read_braces, until_with, behind_until, read_middle, before_colon, name_first, read_bound, Sort, whole, more_or, joined, more_and, prefixed, applied, grouped, bound, halves, closed, start, last_half, turn, formula_in, read_formula, at_end, tree_of}
+use Rattle.grammar.specs.Parsing.{shut, read_inside, read_braces, until_with, behind_until, read_middle, name_first, read_bound, Sort, whole, more_or, joined, more_and, prefixed, applied, grouped, bound, halves, closed, start, last_half, turn, formula_in, read_formula, at_end, tree_of}
 use Rattle.grammar.specs.Telling.{OneFormula}
 use Rattle.grammar.proofs.EventGrammar.{Of, then_of, taken_of, read_spells}
 use Rattle.grammar.proofs.Complete.{spelled_read}

@@ -1,13 +1,13 @@
 -- Readings of formulas: more turns say no less, and enough turns settle them. Assumes nothing.
-use Rattle.std.proofs.Common.{◌≡◌, ℕ, zero, suc, ◌+◌, ◌*◌, ◌<◌, ◌≤◌, Bool, true, false, cond, List, [], ◌∷◌, length, Some, None, Option, sym, refl, ap, ◌∙◌, subst, arith}
+use Rattle.std.proofs.Common.{◌≡◌, ℕ, zero, suc, ◌+◌, ◌*◌, ◌<◌, ◌≤◌, Bool, true, false, List, [], ◌∷◌, length, Some, None, Option, sym, refl, ap, ◌∙◌, arith}
 use Rattle.text.specs.declared.names.Name.{Name}
 use Rattle.symbols.specs.declared.Symbol.{Symbol}
 use Rattle.symbols.specs.declared.Symbol.TheVariants as symbol
 use Rattle.symbols.specs.Symbols.{taken}
-use Rattle.trees.specs.Trees.{Unary, negation, diamond, box_all, all_next, eventually, always, Binary, conjunction, disjunction, one, two, binder}
-use Rattle.grammar.specs.Grammar.{WrittenEvents, Written, plain_until}
-use Rattle.grammar.specs.EventParsing.{Reading, spent, refused, got, and_then, if_taken, read_events}
-use Rattle.grammar.specs.Parsing.{shut, read_inside, read_braces, until_with, behind_until, read_middle, before_colon, name_first, read_bound, Sort, whole, more_or, joined, more_and, prefixed, applied, grouped, bound, halves, closed, start, last_half, turn, formula_in, read_formula}
+use Rattle.trees.specs.Trees.{negation, diamond, box_all, all_next, eventually, always, Binary, conjunction, disjunction, one, two, binder}
+use Rattle.grammar.specs.Grammar.{WrittenEvents, Written}
+use Rattle.grammar.specs.EventParsing.{Reading, refused, got, and_then, if_taken, read_events}
+use Rattle.grammar.specs.Parsing.{shut, read_inside, read_braces, until_with, behind_until, read_middle, name_first, read_bound, Sort, whole, more_or, joined, more_and, prefixed, applied, grouped, bound, halves, closed, start, last_half, turn, formula_in, read_formula}
 use Rattle.grammar.specs.Settling.{settled, Settles}
 use Rattle.grammar.proofs.Readings.{Below, below_refl, then_below, taken_below, later, Fine, then_fine, fine_more, taken_fine, fine_settled, one_outcome}
 use Rattle.grammar.proofs.EventTurns.{read_fine}

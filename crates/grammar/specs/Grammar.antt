@@ -1,10 +1,10 @@
 -- Which symbols spell which formula. Assumes nothing.
-use Rattle.std.specs.Prelude.{Bool, true, false, not, ◌&&◌, ◌||◌, T, List, [], ◌∷◌, Some, None, Option}
+use Rattle.std.specs.Prelude.{Bool, true, false, not, ◌||◌, T, List, [], ◌∷◌, Some, None, Option}
 use Rattle.text.specs.declared.names.Name.{Name}
 use Rattle.symbols.specs.declared.Symbol.{Symbol}
 use Rattle.symbols.specs.declared.Symbol.TheVariants as symbol
 use Rattle.symbols.specs.Symbols.{is}
-use Rattle.trees.specs.Trees.{EventTree, top, bottom, tau, event, not_event, both_events, either_events, Leaf, verum, falsum, final, named, Unary, negation, diamond, box_all, all_next, eventually, always, Binary, conjunction, disjunction, exists_until, all_until, exists_until_by, all_until_by, Tree, leaf, one, two, binder}
+use Rattle.trees.specs.Trees.{EventTree, top, bottom, tau, event, not_event, both_events, either_events, verum, falsum, final, named, negation, diamond, box_all, all_next, eventually, always, Binary, conjunction, disjunction, exists_until, all_until, exists_until_by, all_until_by, Tree, leaf, one, two, binder}
 
 -- an event formula as it is written, with names
 abbrev pub WrittenEvents : Type 0

@@ -4,7 +4,7 @@ use Rattle.text.specs.declared.names.Name.{Name}
 use Rattle.symbols.specs.declared.Symbol.{Symbol}
 use Rattle.symbols.specs.declared.Symbol.TheVariants as symbol
 use Rattle.symbols.specs.Symbols.{taken}
-use Rattle.trees.specs.Trees.{verum, falsum, final, named, Unary, negation, diamond, box_all, all_next, eventually, always, Binary, conjunction, disjunction, Tree, leaf, one, two, binder}
+use Rattle.trees.specs.Trees.{verum, falsum, final, named, Unary, negation, diamond, box_all, all_next, eventually, always, Binary, conjunction, disjunction, leaf, one, two, binder}
 use Rattle.grammar.specs.Grammar.{WrittenEvents, Written, plain_until, until_by}
 use Rattle.grammar.specs.EventParsing.{Reading, spent, refused, got, and_then, if_taken, read_events}
 

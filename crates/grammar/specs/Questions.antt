@@ -1,9 +1,9 @@
 -- What is asked of a formula as it is written, and the formula whose names are resolved. Assumes nothing.
-use Rattle.std.specs.Prelude.{ℕ, Bool, true, false, ◌&&◌, ◌||◌, List, [], ◌∷◌, ◌++◌, is_some, Some, None, Option, nat_le, slice_index_or}
+use Rattle.std.specs.Prelude.{ℕ, Bool, true, ◌&&◌, ◌||◌, List, [], ◌∷◌, ◌++◌, is_some, Some, None, Option, nat_le, slice_index_or}
 use Rattle.text.specs.Numbering.{number_of}
 use Rattle.text.specs.declared.names.Name.{Name}
 use Rattle.logic.specs.Limits.{max_nodes, max_entries, max_depth}
-use Rattle.trees.specs.Trees.{EventTree, top, bottom, tau, event, not_event, both_events, either_events, Leaf, verum, falsum, final, named, Unary, negation, diamond, box_all, all_next, eventually, always, Binary, conjunction, disjunction, exists_until, all_until, exists_until_by, all_until_by, Tree, leaf, one, two, binder, size, entries_size}
+use Rattle.trees.specs.Trees.{EventTree, top, bottom, tau, event, not_event, both_events, either_events, Leaf, verum, falsum, final, named, Unary, negation, diamond, box_all, all_next, eventually, always, Binary, conjunction, disjunction, exists_until, all_until, exists_until_by, all_until_by, leaf, one, two, binder, size, entries_size}
 use Rattle.trees.specs.Numbering.{Atom, proposition, variable, Term, sign_below}
 use Rattle.trees.specs.Lawful.{depth_of, same_sign}
 use Rattle.grammar.specs.Grammar.{WrittenEvents, Written}

@@ -1,7 +1,7 @@
 -- The lines of labels one by one. Assumes nothing.
-use Rattle.std.proofs.Common.{◌≡◌, ℕ, suc, ◌+◌, ◌<◌, ◌≤◌, Bool, true, false, cond, ◌&&◌, ltb, leb, List, [], ◌∷◌, length, get_or, is_some, Some, None, Ok, Err, fold, Option, Result, sym, refl, ap, ◌∙◌, subst, add-one, arith}
+use Rattle.std.proofs.Common.{◌≡◌, ℕ, suc, ◌+◌, ◌<◌, Bool, true, false, cond, ◌&&◌, ltb, leb, List, [], ◌∷◌, length, get_or, is_some, Some, None, Ok, Err, fold, Option, Result, sym, refl, ap, ◌∙◌, subst, add-one, arith}
 use lib.Bits.{bit_or}
-use Rattle.std.proofs.lemmas.Bool.{ltb-true, and_parts}
+use Rattle.std.proofs.lemmas.Bool.{ltb-true}
 use Rattle.std.specs.Option.{option_map}
 use Rattle.files.specs.Lines.{Row, line_at}
 use Rattle.files.proofs.Tiling.{rows_past, rows_at, rows_none}

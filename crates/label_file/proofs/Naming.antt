@@ -1,12 +1,10 @@
 -- The first line of the label file, case by case. Assumes nothing.
-use Rattle.std.proofs.Common.{◌≡◌, ℕ, Bool, true, false, cond, List, [], ◌∷◌, Some, None, Ok, Err, Option, Result, sym, refl, ap, ◌∙◌, arith}
-use Rattle.std.specs.Option.{option_map}
+use Rattle.std.proofs.Common.{◌≡◌, ℕ, true, false, cond, List, Some, None, Ok, Err, Option, Result, sym, refl, ap, ◌∙◌}
 use Rattle.files.specs.Lines.{Row, rows_of, line_at}
 use Rattle.files.proofs.Tiling.{rows_at, rows_none}
 use Rattle.layouts.specs.declared.fault.LineFault.{LineFault}
 use Rattle.contents.specs.NamesLine.{names_of, seen_names, well_begun}
 use Rattle.text.specs.Held.{held}
-use Rattle.text.specs.declared.names.Name.{Name}
 use Rattle.text.specs.declared.numbering.Names.{Names}
 use Rattle.label_file.specs.LabelPart.{well_named, names_row}
 

@@ -1,13 +1,13 @@
 -- Sets that change place by place. Assumes nothing.
-use Rattle.std.proofs.Common.{◌≡◌, ℕ, suc, ◌+◌, ◌<◌, ◌≤◌, min, Bool, true, false, cond, eqb, ◌≢◌, ◌⊎◌, List, [], ◌∷◌, map, length, get_or, drop, set, Some, None, Ok, Err, fold, Option, Result, sym, refl, ap, ◌∙◌, inl, inr, ⊎_elim, arith, length-set, get_or-set_other, get_or-set_same, eq-eqb, ne_eqb}
+use Rattle.std.proofs.Common.{◌≡◌, ℕ, ◌+◌, ◌<◌, ◌≤◌, min, cond, eqb, ◌≢◌, ◌⊎◌, List, length, get_or, set, Some, None, Ok, Err, fold, Result, sym, refl, ap, ◌∙◌, inl, inr, ⊎_elim, arith, length-set, get_or-set_other, get_or-set_same, eq-eqb, ne_eqb}
 use lib.Bits.{bit_or}
-use Rattle.std.proofs.lemmas.Bool.{cases_lt, cases_order}
+use Rattle.std.proofs.lemmas.Bool.{cases_order}
 use Rattle.files.specs.Lines.{Row, line_at}
 use Rattle.files.proofs.Tiling.{rows_past, rows_at, rows_none}
 use Rattle.layouts.specs.Layouts.{Marks, marks_of}
 use Rattle.layouts.specs.declared.fault.LineFault.{LineFault}
 use Rattle.contents.specs.NamesLine.{map_ok}
-use Rattle.contents.specs.MarksLine.{set_of, marked_by, marked_of}
+use Rattle.contents.specs.MarksLine.{marked_by, marked_of}
 use Rattle.contents.specs.declared.marks.Marked.{Marked}
 use Rattle.transition_file.specs.TransitionPart.{body, body_start}
 use Rattle.transition_file.proofs.Scanning.{body_rows}

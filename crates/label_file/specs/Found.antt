@@ -1,12 +1,12 @@
 -- What the reader of the label file gives, and what places hold after a pass. Assumes nothing.
-use Rattle.std.specs.Prelude.{◌≡◌, ℕ, ◌<◌, ◌≤◌, List, length, Ok, Err, fold, Result, slice_index}
+use Rattle.std.specs.Prelude.{◌≡◌, ℕ, ◌<◌, ◌≤◌, List, length, Ok, Err, Result, slice_index}
 use Rattle.files.specs.Lines.{Row}
 use Rattle.files.specs.declared.fault.Fault.{Fault}
 use Rattle.files.specs.declared.lines.Line.{Line}
 use Rattle.text.specs.Held.{held}
 use Rattle.text.specs.Numbering.{join_all}
 use Rattle.text.specs.declared.names.Name.{Name}
-use Rattle.label_file.specs.LabelPart.{label_part, add_row}
+use Rattle.label_file.specs.LabelPart.{label_part}
 use Rattle.label_file.specs.declared.reading.LabelsRead.{LabelsRead}
 
 -- the names of the file and the names of propositions, or the first question that gets a no

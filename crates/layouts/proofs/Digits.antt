@@ -1,13 +1,12 @@
 -- A run of digits, digit by digit, and its numeral. Assumes nothing.
-use Rattle.std.proofs.Common.{◌≡◌, ℕ, zero, suc, ◌+◌, ◌-◌, ◌*◌, ◌/◌, ◌%◌, ◌^◌, ◌<◌, ◌≤◌, Bool, true, false, cond, ◌&&◌, eqb, ltb, leb, ◌⊎◌, List, [], ◌∷◌, ◌++◌, map, length, drop, is_some, Some, None, Ok, Err, Option, Result, unwrap_or, sym, refl, ap, ◌∙◌, subst, inl, inr, ⊎_elim, zero-lt-suc, pow-suc, arith, length-drop, drop-drop, eq-eqb, ne_eqb, le-leb}
+use Rattle.std.proofs.Common.{◌≡◌, ℕ, zero, suc, ◌+◌, ◌-◌, ◌*◌, ◌/◌, ◌%◌, ◌^◌, ◌<◌, ◌≤◌, Bool, true, false, cond, ◌&&◌, eqb, ltb, leb, List, [], ◌∷◌, ◌++◌, map, length, drop, is_some, Some, None, Ok, Err, Option, Result, unwrap_or, sym, refl, ap, ◌∙◌, subst, ⊎_elim, zero-lt-suc, pow-suc, arith, length-drop, drop-drop, eq-eqb, ne_eqb, le-leb}
 use native.Mathlib.Nat.{pow-le-pow_right}
 use lib.ListN.{length-map}
-use borrow.Author.Tests.{lt-leb}
-use Rattle.std.proofs.lemmas.Bool.{cond-true, cond-false, cond_both, lt-ltb, le-ltb, ltb-true, ltb-false, cases_lt, and_parts, leb-true}
+use Rattle.std.proofs.lemmas.Bool.{cond-true, cond-false, lt-ltb, le-ltb, ltb-false, cases_lt, and_parts, leb-true}
 use Rattle.std.specs.List.{AllByRecursion as All}
 use Rattle.layouts.specs.declared.number.Number.{Number}
 use Rattle.layouts.specs.declared.fault.NumberFault.{NumberFault}
-use Rattle.layouts.specs.Numbers.{digit_worth, front_worth, is_digit, digits, worth, zero_leads, number_at, code, numeral, Stands, Numerals}
+use Rattle.layouts.specs.Numbers.{digit_worth, front_worth, digits, worth, zero_leads, number_at, code, numeral, Stands, Numerals}
 
 -- a digit is 48 more than its worth, which is below 10
 pub from_worth : (b d : ℕ) → digit_worth b ≡ Some d → (b ≡ 48 + d) × (d < 10)

@@ -1,10 +1,9 @@
 -- The lines of the transition file and their printed forms. Assumes nothing.
-use Rattle.std.proofs.Common.{◌≡◌, ℕ, ◌+◌, ◌<◌, ◌≤◌, List, [], ◌∷◌, ◌++◌, length, drop, Ok, Err, codes, Result, sym, refl, ap, ◌∙◌, subst, arith}
-use Rattle.layouts.specs.declared.number.Number.{Number}
+use Rattle.std.proofs.Common.{◌≡◌, ℕ, ◌+◌, List, [], ◌∷◌, ◌++◌, length, Ok, codes, refl, ap, ◌∙◌, subst, arith}
 use Rattle.layouts.specs.declared.fault.LineFault.{LineFault}
 use Rattle.layouts.specs.declared.transitions.Header.{Header}
-use Rattle.layouts.specs.Numbers.{numeral, digits}
-use Rattle.layouts.specs.Pieces.{and_then, piece_at, line_number_at, end_at}
+use Rattle.layouts.specs.Numbers.{numeral}
+use Rattle.layouts.specs.Pieces.{piece_at, line_number_at, end_at}
 use Rattle.layouts.specs.Layouts.{header_of, Arrow, transition_of, quote_from, between}
 use Rattle.layouts.specs.Printed.{printed_header, WritableHeader, printed_arrow, WritableArrow}
 use Rattle.layouts.proofs.Steps.{begun, ok_same, piece_text, piece_read, piece_left, number_stands, number_read, number_left, end_text, end_read, left_none, quote_text, quote_free, quote_at, quote_is, quote_left}

@@ -1,12 +1,10 @@
 -- The lines of the label file and their printed forms. Assumes nothing.
-use Rattle.std.proofs.Common.{◌≡◌, ℕ, zero, suc, ◌+◌, ◌-◌, ◌<◌, ◌≤◌, Bool, true, false, cond, eqb, List, [], ◌∷◌, ◌++◌, length, drop, Some, None, Ok, Err, codes, Option, Result, sym, refl, ap, ◌∙◌, subst, arith, length-append, length-drop, eq-eqb, ne_eqb, true-eqb}
+use Rattle.std.proofs.Common.{◌≡◌, ℕ, suc, ◌+◌, ◌<◌, ◌≤◌, Bool, true, false, cond, eqb, List, [], ◌∷◌, ◌++◌, length, drop, Some, None, Ok, codes, Option, sym, refl, ap, ◌∙◌, subst, arith, length-append, length-drop, eq-eqb, ne_eqb, true-eqb}
 use Rattle.std.proofs.lemmas.List.{append_assoc, append-nil, drop_all}
-use Rattle.std.proofs.lemmas.Bool.{cond_both}
-use Rattle.std.specs.List.{flat_map, AllByRecursion as All}
-use Rattle.layouts.specs.declared.number.Number.{Number}
+use Rattle.std.specs.List.{AllByRecursion as All}
 use Rattle.layouts.specs.declared.fault.LineFault.{LineFault}
-use Rattle.layouts.specs.Numbers.{numeral, digits, Stands}
-use Rattle.layouts.specs.Pieces.{and_then, piece_at, line_number_at, end_at}
+use Rattle.layouts.specs.Numbers.{numeral, digits}
+use Rattle.layouts.specs.Pieces.{and_then, piece_at, line_number_at}
 use Rattle.layouts.specs.Layouts.{quote_from, between, repeated, Item, next_at, item_at, items_of, state_at, listed_at, Marks, marks_of}
 use Rattle.layouts.specs.Printed.{Writable, printed_item, WritableItem, printed_parts, printed_items, printed_marks, ReadsAsWritten}
 use Rattle.layouts.proofs.Steps.{begun, ok_same, piece_text, piece_read, piece_left, number_stands, number_read, number_left, left_none, quote_text, quote_free, quote_at, quote_is, quote_left}

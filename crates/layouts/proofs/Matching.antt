@@ -1,9 +1,8 @@
 -- A piece of a line byte by byte, and the bytes before a quote mark. Assumes nothing.
-use Rattle.std.proofs.Common.{◌≡◌, ℕ, zero, suc, ◌+◌, ◌-◌, ◌<◌, ◌≤◌, Bool, true, false, cond, eqb, List, [], ◌∷◌, ◌++◌, length, get_or, take, drop, Ok, Err, Result, sym, refl, ap, ◌∙◌, arith, length-drop, eq-eqb, ne_eqb, true-eqb}
+use Rattle.std.proofs.Common.{◌≡◌, ℕ, suc, ◌+◌, ◌<◌, ◌≤◌, Bool, true, false, cond, eqb, List, [], ◌∷◌, length, get_or, drop, Ok, Err, sym, refl, ap, ◌∙◌, arith, length-drop, eq-eqb, ne_eqb, true-eqb}
 use Rattle.std.proofs.lemmas.List.{drop_more, drop_all, at_drop_more, at_drop_all}
-use Rattle.layouts.specs.declared.fault.LineFault.{LineFault}
 use Rattle.layouts.specs.declared.fault.LineFault.TheVariants.{Other}
-use Rattle.layouts.specs.Pieces.{matched, piece_at, before, end_at}
+use Rattle.layouts.specs.Pieces.{matched, piece_at, before}
 
 matched_none : (s : List ℕ) → matched s [] ≡ 0
 matched_none [] = refl

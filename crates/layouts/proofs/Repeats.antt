@@ -1,9 +1,8 @@
 -- A part of a line that repeats, and its printed form. Assumes nothing.
-use Rattle.std.proofs.Common.{◌≡◌, ℕ, zero, suc, ◌+◌, ◌-◌, ◌<◌, ◌≤◌, List, [], ◌∷◌, ◌++◌, length, drop, Some, None, Ok, Err, Option, Result, sym, refl, ap, ◌∙◌, subst, arith, length-append}
+use Rattle.std.proofs.Common.{◌≡◌, ℕ, zero, suc, ◌<◌, ◌≤◌, List, [], ◌∷◌, ◌++◌, length, drop, Some, None, Ok, Option, Result, sym, refl, ap, ◌∙◌, subst, arith, length-append}
 use Rattle.std.proofs.lemmas.List.{append_assoc, append-nil}
 use Rattle.std.specs.List.{flat_map, AllByRecursion as All}
 use Rattle.layouts.specs.declared.fault.LineFault.{LineFault}
-use Rattle.layouts.specs.Pieces.{and_then}
 use Rattle.layouts.specs.Layouts.{go_on, repeated}
 use Rattle.layouts.specs.Printed.{printed_parts}
 use Rattle.layouts.proofs.Steps.{begun, ok_same}

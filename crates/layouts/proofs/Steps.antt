@@ -1,15 +1,14 @@
 -- One step of a layout, both ways: what was read stands there, and what stands there is read. Assumes nothing.
-use Rattle.std.proofs.Common.{◌≡◌, ℕ, zero, suc, ◌+◌, ◌-◌, ◌<◌, ◌≤◌, Bool, true, false, cond, eqb, List, [], ◌∷◌, ◌++◌, length, take, drop, Ok, Err, Result, sym, refl, ap, ◌∙◌, subst, arith, length-append, length-drop, drop-drop, eq-eqb, ne_eqb, true-eqb}
+use Rattle.std.proofs.Common.{◌≡◌, ℕ, suc, ◌+◌, ◌-◌, ◌<◌, Bool, true, false, cond, eqb, List, [], ◌∷◌, ◌++◌, length, take, drop, Ok, Err, Result, sym, refl, ap, ◌∙◌, arith, length-drop, drop-drop, eq-eqb, true-eqb}
 use Rattle.std.proofs.lemmas.List.{drop_all, drop_at, take_at, length-take-le, take-append-drop}
 use Rattle.layouts.specs.declared.number.Number.{Number}
 use Rattle.layouts.specs.declared.fault.NumberFault.{NumberFault}
-use Rattle.layouts.specs.declared.fault.LineFault.{LineFault}
-use Rattle.layouts.specs.declared.fault.LineFault.TheVariants.{Digits, Other}
+use Rattle.layouts.specs.declared.fault.LineFault.TheVariants.{Other}
 use Rattle.layouts.specs.Numbers.{digits, numeral, number_at, Stands}
 use Rattle.layouts.specs.Pieces.{and_then, matched, piece_at, unquoted, end_at, in_line, line_number_at}
 use Rattle.layouts.specs.Layouts.{between, quote_from}
 use Rattle.layouts.proofs.Digits.{numerals}
-use Rattle.layouts.proofs.Matching.{Piece, piece_was, before_short}
+use Rattle.layouts.proofs.Matching.{piece_was, before_short}
 
 -- a chain that ended well began well
 pub begun : {X Y E : Type 0} (r : Result X E) (f : X → Result Y E) (y : Y) → and_then r f ≡ Ok y → (G : Type 0) → ((x : X) → r ≡ Ok x → f x ≡ Ok y → G) → G

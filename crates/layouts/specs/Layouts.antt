@@ -1,6 +1,6 @@
 -- What each line of the two files reads as, and where a line that has another layout leaves it. Numbers and quoted texts may be any:
 -- what they are worth is asked later. Assumes nothing.
-use Rattle.std.specs.Prelude.{◌≡◌, ℕ, zero, suc, ◌+◌, ◌-◌, Bool, true, false, cond, List, [], ◌∷◌, length, take, drop, Some, None, Ok, Err, codes, Option, Result, ◌==◌}
+use Rattle.std.specs.Prelude.{ℕ, zero, suc, ◌+◌, ◌-◌, cond, List, [], ◌∷◌, length, take, drop, Some, None, Ok, Err, codes, Option, Result, ◌==◌}
 use Rattle.layouts.specs.declared.fault.LineFault.{LineFault}
 use Rattle.layouts.specs.declared.fault.LineFault.TheVariants.{Other}
 use Rattle.layouts.specs.declared.transitions.Header.{Header}

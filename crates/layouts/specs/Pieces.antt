@@ -1,5 +1,5 @@
 -- Fixed pieces and quoted text in a line, and chains of readings. Assumes nothing.
-use Rattle.std.specs.Prelude.{ℕ, suc, ◌+◌, Bool, true, false, cond, List, [], ◌∷◌, length, drop, Ok, Err, Result, ◌==◌}
+use Rattle.std.specs.Prelude.{ℕ, suc, ◌+◌, cond, List, [], ◌∷◌, length, drop, Ok, Err, Result, ◌==◌}
 use Rattle.layouts.specs.declared.number.Number.{Number}
 use Rattle.layouts.specs.declared.fault.NumberFault.{NumberFault}
 use Rattle.layouts.specs.declared.fault.LineFault.{LineFault}

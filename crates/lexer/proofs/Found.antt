@@ -1,10 +1,10 @@
 -- The token that comes next, by what was found there. Assumes nothing.
-use Rattle.std.proofs.Common.{◌≡◌, ℕ, suc, ◌+◌, ◌-◌, ◌<◌, ◌≤◌, Bool, true, false, cond, ltb, List, [], ◌∷◌, length, get_or, take, drop, Some, None, Option, sym, refl, ap, ◌∙◌, arith, length-drop}
+use Rattle.std.proofs.Common.{◌≡◌, ℕ, suc, ◌+◌, ◌-◌, ◌<◌, ◌≤◌, Bool, true, false, cond, List, [], ◌∷◌, length, get_or, take, drop, Some, None, Option, sym, ap, ◌∙◌, arith, length-drop}
 use Rattle.std.proofs.lemmas.List.{drop_all, drop_more, at_drop_more, at_drop_all}
 use Rattle.std.proofs.lemmas.Bool.{lt-ltb, le-ltb}
 use Rattle.text.specs.Words.{word_limit, is_start, goes_on, word_len}
 use Rattle.lexer.specs.declared.Mark.{Mark}
-use Rattle.lexer.specs.Tokens.{is_blank, mark_of, blanks, Sign, end, mark, word, Next, got, refused, word_at, by_mark, front_token, token_at}
+use Rattle.lexer.specs.Tokens.{is_blank, mark_of, blanks, end, mark, word, Next, got, refused, word_at, by_mark, front_token, token_at}
 
 -- blanks one by one
 module _ (s : List ℕ) (i : ℕ) where

@@ -1,6 +1,5 @@
 -- What files that pass their questions are known to hold. Assumes nothing.
-use Rattle.std.proofs.Common.{◌≡◌, ℕ, zero, suc, ◌+◌, ◌<◌, ◌≤◌, Bool, true, false, cond, ◌&&◌, eqb, ltb, leb, List, [], ◌∷◌, map, length, Some, None, Ok, Err, Option, Result, unwrap_or, sym, refl, ap, ◌∙◌, subst, arith}
-use lib.ListN.{length-map}
+use Rattle.std.proofs.Common.{◌≡◌, ℕ, zero, suc, ◌<◌, ◌≤◌, Bool, true, false, cond, ◌&&◌, ltb, leb, List, [], ◌∷◌, map, length, Some, None, Ok, Err, Option, Result, unwrap_or, sym, refl, ap, ◌∙◌, subst, arith}
 use Rattle.std.proofs.lemmas.Bool.{leb-true, ltb-true, and_parts}
 use Rattle.std.specs.Result.{result_ok}
 use Rattle.std.specs.List.{AllByRecursion as All}
@@ -13,7 +12,7 @@ use Rattle.systems.specs.Limits.{max_states}
 use Rattle.text.specs.Numbering.{names_limit, join_all}
 use Rattle.text.specs.declared.names.Name.{Name}
 use Rattle.transition_file.specs.Asking.{ask, given, pass}
-use Rattle.transition_file.specs.TransitionPart.{max_transitions, short, header_row, numbers_fit, is_arrow, misplaced, failing, asked, on_arrow, lawful_label, joins_states, arrow_in, numbered, body, arrows_of, events_then, transition_part}
+use Rattle.transition_file.specs.TransitionPart.{max_transitions, short, header_row, numbers_fit, is_arrow, misplaced, failing, asked, on_arrow, lawful_label, joins_states, arrow_in, numbered, body, events_then, transition_part}
 use Rattle.label_file.specs.LabelPart.{names_row, rising, lawful_marks, asked_marks, state_in, lawful_state, or_start, mislabelled, label_part}
 
 -- a chain that ended well: each question got a yes

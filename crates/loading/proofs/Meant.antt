@@ -1,11 +1,11 @@
 -- The table over the records and sets of two files means what the files spell. Assumes nothing.
-use Rattle.std.proofs.Common.{◌≡◌, ℕ, zero, suc, ◌+◌, ◌-◌, ◌%◌, ◌^◌, ◌<◌, ◌≤◌, Bool, true, false, cond, ◌&&◌, eqb, ltb, leb, List, [], ◌∷◌, ◌++◌, map, length, get_or, take, drop, Some, None, Ok, Err, fold, filter, Option, Result, sym, refl, ap, ◌∙◌, subst, ⊎_elim, mod-eq_of_lt, arith, length-append, length-drop, take_all, ne_eqb}
+use Rattle.std.proofs.Common.{◌≡◌, ℕ, zero, suc, ◌+◌, ◌-◌, ◌%◌, ◌^◌, ◌<◌, ◌≤◌, Bool, true, false, cond, ◌&&◌, eqb, ltb, leb, List, [], ◌∷◌, ◌++◌, map, length, get_or, take, drop, Some, None, Ok, Err, fold, filter, Option, Result, sym, refl, ap, ◌∙◌, ⊎_elim, mod-eq_of_lt, arith, length-append, length-drop, take_all, ne_eqb}
 use lib.Bits.{bit_or, or_lt}
 use lib.ListN.{length-map}
 use Rattle.std.proofs.lemmas.Nat.{pow_below, pow_pos}
 use Rattle.std.proofs.lemmas.List.FromFn.{length-map-range_with_len, get_or-map-range_with_len}
-use Rattle.std.proofs.lemmas.List.{take_at, drop_at, get_or_append_left, get_or-append_right, get_or-drop, ext_get_or}
-use Rattle.std.proofs.lemmas.Bool.{cond-true, cond-false, lt-ltb, le-ltb, cases_lt, and_parts, ltb-true}
+use Rattle.std.proofs.lemmas.List.{take_at, get_or_append_left, get_or-append_right, get_or-drop, ext_get_or}
+use Rattle.std.proofs.lemmas.Bool.{cond-true, cond-false, lt-ltb, le-ltb, cases_lt, and_parts}
 use Rattle.std.specs.List.{range_with_len, AllByRecursion as All}
 use Rattle.std.specs.Option.{option_map}
 use Rattle.files.specs.Lines.{Row}
@@ -14,14 +14,13 @@ use Rattle.layouts.specs.declared.fault.LineFault.{LineFault}
 use Rattle.contents.specs.MarksLine.{add_mark, set_of}
 use Rattle.contents.specs.declared.marks.Listing.{Listing}
 use Rattle.systems.specs.Limits.{max_moves}
-use Rattle.systems.specs.Meaning.{Move}
 use Rattle.systems.specs.Tabled.{counts, move_of, counting as countingAt}
 use Rattle.systems.specs.declared.transition.Transition.{Transition}
 use Rattle.text.specs.Names.{same_name}
 use Rattle.text.specs.Numbering.{number_of}
 use Rattle.text.specs.declared.names.Name.{Name}
 use Rattle.text.proofs.Picks.{within}
-use Rattle.transition_file.specs.Sets.{single, bit_in, add_name, set_in}
+use Rattle.transition_file.specs.Sets.{single, bit_in, add_name}
 use Rattle.transition_file.specs.Records.{record_in, events_of, written}
 use Rattle.transition_file.specs.TransitionPart.{joins_states, names_in}
 use Rattle.label_file.specs.LabelPart.{masks, add_set, add_marks, add_row, labels_at}

@@ -1,6 +1,5 @@
 -- How the nodes of a formula lie: parts before their node, and the whole body of a binder right before it. Assumes nothing.
 use Rattle.std.specs.Prelude.{◌≡◌, ℕ, suc, ◌<◌, ◌≤◌, Bool, true, false, not}
-use Rattle.logic.specs.declared.nodes.Kind.{Kind}
 use Rattle.logic.specs.declared.nodes.Node.{Node}
 use Rattle.logic.specs.Holding.{Manner, direct, bound, fixed, binds, manner, Part}
 

@@ -1,5 +1,5 @@
 -- The table of unfoldings: when a node of each kind holds at a state. Assumes nothing.
-use Rattle.std.specs.Prelude.{◌≡◌, ℕ, zero, suc, ◌<◌, Bool, true, false, not, T, ◌⊎◌}
+use Rattle.std.specs.Prelude.{◌≡◌, ℕ, zero, suc, ◌<◌, Bool, true, false, T, ◌⊎◌}
 use Rattle.systems.specs.Meaning.{Meaning, move_count, events_at, target_at, holds}
 use Rattle.logic.specs.declared.nodes.Guard.{Guard}
 use Rattle.logic.specs.declared.nodes.Kind.{Kind}

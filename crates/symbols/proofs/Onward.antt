@@ -4,7 +4,7 @@ use Rattle.text.specs.Words.{word_limit, is_start, word_len}
 use Rattle.lexer.specs.declared.Mark.{Mark}
 use Rattle.lexer.specs.declared.Token.{Token}
 use Rattle.lexer.specs.declared.Token.TheVariants as token
-use Rattle.lexer.specs.Tokens.{mark_of, blanks, Sign, end, mark, word, Next, got, refused, word_at, by_mark, front_token, token_at, sign_of}
+use Rattle.lexer.specs.Tokens.{mark_of, blanks, end, mark, word, Next, got, refused, word_at, by_mark, front_token, token_at, sign_of}
 use Rattle.lexer.proofs.Found.{word_short}
 use Rattle.symbols.specs.declared.Symbol.{Symbol}
 use Rattle.symbols.specs.declared.Symbol.TheVariants as symbol

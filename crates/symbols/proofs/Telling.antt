@@ -1,11 +1,10 @@
 -- Symbols are told apart by their numbers, and a text is read symbol by symbol. Assumes nothing.
-use Rattle.std.proofs.Common.{◌≡◌, ℕ, zero, suc, ◌<◌, ◌≤◌, Bool, true, false, cond, T, eqb, ◌⊎◌, List, [], ◌∷◌, length, get_or, Some, None, Option, sym, refl, ap, ◌∙◌, subst, inl, inr, arith}
+use Rattle.std.proofs.Common.{◌≡◌, ℕ, ◌<◌, ◌≤◌, Bool, true, false, cond, T, eqb, ◌⊎◌, List, [], ◌∷◌, length, get_or, Some, None, sym, refl, ap, ◌∙◌, subst, inl, inr, arith}
 use Rattle.std.proofs.lemmas.Bool.{eqb-true, eq-eqb, cond-true, cond-false}
 use Rattle.std.specs.Option.{option_map}
-use Rattle.text.specs.declared.names.Name.{Name}
 use Rattle.symbols.specs.declared.Symbol.{Symbol}
 use Rattle.symbols.specs.declared.Symbol.TheVariants as symbol
-use Rattle.symbols.specs.Symbols.{symbol_number, is, symbol_at, accept_at, before, taken, symbols_from}
+use Rattle.symbols.specs.Symbols.{symbol_number, is, symbol_at, accept_at, taken, symbols_from}
 use Rattle.symbols.proofs.Onward.{symbol_onward, symbols_next}
 
 -- the symbol with a number

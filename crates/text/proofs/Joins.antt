@@ -1,12 +1,12 @@
 -- Names that join a list of names.
-use Rattle.std.proofs.Common.{◌≡◌, ℕ, zero, suc, ◌+◌, ◌<◌, ◌≤◌, Bool, true, false, cond, not, ◌&&◌, T, List, [], ◌∷◌, ◌++◌, length, is_some, Some, None, Option, sym, refl, ap, ◌∙◌, subst, arith, length-append}
+use Rattle.std.proofs.Common.{◌≡◌, ℕ, zero, suc, ◌≤◌, Bool, true, false, cond, not, T, List, [], ◌∷◌, ◌++◌, length, is_some, Some, None, Option, sym, refl, ap, ◌∙◌, subst, arith, length-append}
 use Rattle.std.specs.List.{slice_get}
 use Rattle.std.proofs.lemmas.List.{append-nil, append_assoc}
-use Rattle.std.proofs.lemmas.Bool.{and_parts, and_from, not-true, both_ways, false≢true}
+use Rattle.std.proofs.lemmas.Bool.{and_parts, and_from, both_ways, false≢true}
 use Rattle.text.specs.declared.names.Name.{Name}
-use Rattle.text.specs.Lookup.{or_front, latest}
+use Rattle.text.specs.Lookup.{or_front}
 use Rattle.text.specs.Names.{same_name}
-use Rattle.text.specs.Numbering.{number_of, all_different, join_one, join_all, JoiningKeeps, JoiningIsLawful, NumbersArePlaces}
+use Rattle.text.specs.Numbering.{number_of, all_different, join_one, join_all, JoiningIsLawful, NumbersArePlaces}
 use Rattle.text.proofs.Letters.{T_true, true_T}
 use Rattle.text.proofs.Packs.{tells_names}
 use Rattle.text.proofs.Picks.{none_some, none_parts, found, within, push_passed, push_failed}

@@ -1,12 +1,11 @@
 -- Bytes packed into numbers, and read back from them.
-use Rattle.std.proofs.Common.{◌≡◌, ℕ, zero, suc, ◌+◌, ◌-◌, ◌*◌, ◌/◌, ◌%◌, ◌^◌, ◌<◌, ◌≤◌, Bool, true, false, cond, ◌&&◌, T, eqb, ltb, List, [], ◌∷◌, length, get_or, drop, sym, refl, ap, ◌∙◌, ⊎_elim, le_of_suc-le-suc, add-zero, mod-eq_of_lt, zero-add, div-one, arith, length-drop}
+use Rattle.std.proofs.Common.{◌≡◌, ℕ, zero, suc, ◌+◌, ◌-◌, ◌*◌, ◌/◌, ◌%◌, ◌^◌, ◌<◌, ◌≤◌, true, false, cond, ◌&&◌, eqb, List, [], ◌∷◌, length, get_or, drop, sym, refl, ap, ◌∙◌, ⊎_elim, le_of_suc-le-suc, add-zero, mod-eq_of_lt, zero-add, div-one, arith}
 use native.Mathlib.Nat.{zero-div, zero-mod, add-mul-mod_self_left}
 use Rattle.std.specs.List.{AllByRecursion as All}
 use Rattle.std.proofs.lemmas.Nat.{shr-shr}
 use Rattle.std.proofs.lemmas.List.{at_drop_more, at_drop_all, get_or_past, get_or-drop, ext_get_or}
 use Rattle.std.proofs.lemmas.Bool.{cases_lt, and_parts, and_from, eqb-true, eq-eqb, ne_eqb, cond_below, cond_above}
 use Rattle.text.specs.declared.names.Name.{Name}
-use Rattle.text.specs.Words.{is_word}
 use Rattle.text.specs.Names.{packed, name_of, same_name, part_of, byte_of, solid_from, length_of, ReadsBack, TellsWords, TellsNames}
 use Rattle.text.proofs.Letters.{Solid, word_short, word_solid}
 

@@ -1,5 +1,5 @@
 -- The last of a list that passes a test.
-use Rattle.std.specs.Prelude.{◌≡◌, ℕ, suc, ◌<◌, Bool, true, false, cond, List, [], ◌∷◌, Some, None, Option}
+use Rattle.std.specs.Prelude.{◌≡◌, ℕ, suc, ◌<◌, Bool, true, cond, List, [], ◌∷◌, Some, None, Option}
 use Rattle.std.specs.List.{slice_get}
 
 -- the index in a list with one more at its front: that of the rest, one further on, or else the front's if that passes

@@ -1,12 +1,12 @@
 -- The questions of the transition file, one after the other. Assumes nothing.
-use Rattle.std.proofs.Common.{◌≡◌, ℕ, ◌<◌, ◌≤◌, true, false, leb, List, length, Some, None, Ok, Err, Option, sym, refl, ap, ◌∙◌, le-leb}
+use Rattle.std.proofs.Common.{◌≡◌, ℕ, true, false, List, length, Some, None, Ok, Err, sym, refl, ap, ◌∙◌, le-leb}
 use borrow.Author.Tests.{lt-leb}
-use Rattle.files.specs.Lines.{Row, rows_of}
+use Rattle.files.specs.Lines.{rows_of}
 use Rattle.files.specs.declared.fault.Fault.TheVariants.{TransitionLine, TransitionLabel, TransitionStates, TooManyEvents}
 use Rattle.files.proofs.Tiling.{rows_past}
 use Rattle.layouts.specs.declared.transitions.Header.{Header}
 use Rattle.text.specs.declared.names.Name.{Name}
-use Rattle.text.specs.Numbering.{join_all, names_limit}
+use Rattle.text.specs.Numbering.{names_limit}
 use Rattle.transition_file.specs.TransitionPart.{short, header_row, numbers_fit, misplaced, failing, on_arrow, lawful_label, joins_states, names_in_rows, join_if_few, numbered, body_start, body, events_then, transition_part}
 use Rattle.transition_file.proofs.Scanning.{body_rows}
 use Rattle.transition_file.proofs.Joining.{few_if, many_if}

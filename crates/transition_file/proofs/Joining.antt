@@ -1,11 +1,9 @@
 -- Names that join, line by line. Assumes nothing.
-use Rattle.std.proofs.Common.{◌≡◌, ℕ, suc, ◌+◌, ◌<◌, ◌≤◌, Bool, true, false, cond, leb, List, [], ◌∷◌, ◌++◌, length, is_some, Some, None, Option, sym, refl, ap, ◌∙◌, subst, ⊎_elim, arith, length-append, le-leb}
+use Rattle.std.proofs.Common.{◌≡◌, ℕ, ◌<◌, ◌≤◌, Bool, true, false, cond, List, [], ◌∷◌, ◌++◌, length, Some, None, sym, refl, ap, ◌∙◌, arith, le-leb}
 use borrow.Author.Tests.{lt-leb}
-use Rattle.std.proofs.lemmas.Bool.{leb-true, leb-false, cases_lt}
-use Rattle.std.proofs.lemmas.List.{length_push}
-use Rattle.std.specs.Option.{option_map}
+use Rattle.std.proofs.lemmas.Bool.{leb-true, leb-false}
 use Rattle.text.proofs.Joins.{join_longer}
-use Rattle.text.specs.Numbering.{names_limit, number_of, join_one, join_all}
+use Rattle.text.specs.Numbering.{names_limit, join_one, join_all}
 use Rattle.text.specs.declared.names.Name.{Name}
 use Rattle.files.specs.Lines.{Row, line_at}
 use Rattle.files.proofs.Tiling.{rows_past, rows_at, rows_none}

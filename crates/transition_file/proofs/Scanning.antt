@@ -1,10 +1,10 @@
 -- The questions put to the lines one by one. Assumes nothing.
-use Rattle.std.proofs.Common.{◌≡◌, ℕ, zero, suc, ◌+◌, ◌-◌, ◌<◌, ◌≤◌, Bool, true, false, cond, ◌&&◌, ltb, List, [], ◌∷◌, length, drop, is_some, is_ok, is_err, Some, None, Ok, Err, Option, Result, sym, refl, ap, ◌∙◌, subst, arith}
+use Rattle.std.proofs.Common.{◌≡◌, ℕ, suc, Bool, true, false, cond, ◌&&◌, ltb, List, [], ◌∷◌, length, drop, is_ok, is_err, Some, None, Ok, Err, Result, sym, refl, ap, ◌∙◌, arith}
 use Rattle.std.specs.Result.{result_ok}
-use Rattle.files.specs.Lines.{Row, rows_from, rows_of, line_at, end_of}
+use Rattle.files.specs.Lines.{Row, rows_of, line_at}
 use Rattle.std.proofs.lemmas.Bool.{ltb-false, lt-ltb}
 use Rattle.std.proofs.lemmas.List.{nil_from_length}
-use Rattle.files.proofs.Tiling.{Found, rows_past, rows_at, rows_none, line_onward}
+use Rattle.files.proofs.Tiling.{Found, rows_past, rows_at, rows_none}
 use Rattle.layouts.specs.Layouts.{header_of, Arrow, transition_of, seen_arrow}
 use Rattle.layouts.specs.declared.fault.LineFault.{LineFault}
 use Rattle.layouts.specs.declared.transitions.TransitionLine.{TransitionLine}

@@ -1,6 +1,5 @@
 -- Values written over the first places, one by one. Assumes nothing.
-use Rattle.std.proofs.Common.{◌≡◌, ℕ, zero, suc, ◌+◌, ◌<◌, ◌≤◌, List, [], ◌∷◌, ◌++◌, map, length, take, drop, set, Some, None, sym, refl, ap, ◌∙◌, add-one, arith}
-use Rattle.std.proofs.lemmas.List.{drop-map}
+use Rattle.std.proofs.Common.{◌≡◌, ℕ, zero, suc, ◌+◌, ◌<◌, ◌≤◌, List, [], ◌∷◌, map, length, take, drop, set, Some, None, sym, refl, ap, ◌∙◌, add-one, arith}
 use Rattle.files.specs.Lines.{Row, line_at}
 use Rattle.files.proofs.Tiling.{rows_past, rows_at, rows_none}
 use Rattle.systems.specs.declared.transition.Transition.{Transition}

@@ -1,5 +1,5 @@
 -- Questions in order: the first that gets a no is the answer. Assumes nothing.
-use Rattle.std.specs.Prelude.{ℕ, Bool, true, false, cond, Some, None, Ok, Err, Option, Result}
+use Rattle.std.specs.Prelude.{ℕ, Bool, true, false, Some, None, Err, Option, Result}
 use Rattle.files.specs.declared.fault.Fault.{Fault}
 
 -- a question that is answered yes or no, and what follows a yes

@@ -1,5 +1,5 @@
 -- The records that the transition file fills. Assumes nothing.
-use Rattle.std.specs.Prelude.{ℕ, List, [], ◌∷◌, ◌++◌}
+use Rattle.std.specs.Prelude.{ℕ, List, [], ◌∷◌}
 use Rattle.layouts.specs.Layouts.{Arrow}
 use Rattle.systems.specs.declared.transition.Transition.{Transition}
 use Rattle.text.specs.declared.names.Name.{Name}

@@ -1,5 +1,5 @@
 -- Sets of names as numbers, by the numbers that a vocabulary gives the names. Assumes nothing.
-use Rattle.std.specs.Prelude.{ℕ, ◌^◌, List, [], ◌∷◌, map, Some, None, fold, Option, bit_or}
+use Rattle.std.specs.Prelude.{ℕ, ◌^◌, List, Some, None, fold, Option, bit_or}
 use Rattle.text.specs.Numbering.{number_of}
 use Rattle.text.specs.declared.names.Name.{Name}
 

@@ -1,5 +1,5 @@
 -- The tree of a formula, read back from its nodes and entries. Assumes nothing.
-use Rattle.std.specs.Prelude.{◌≡◌, ℕ, zero, suc, ◌<◌, Bool, true, false, T, List, [], ◌∷◌, Some, None, Option}
+use Rattle.std.specs.Prelude.{◌≡◌, ℕ, zero, suc, ◌<◌, true, false, T, List, [], ◌∷◌, Some, None, Option}
 use Rattle.std.specs.List.{slice_get}
 use Rattle.logic.specs.declared.events.EventFormula.{EventFormula}
 use Rattle.logic.specs.declared.events.EventFormula.TheVariants as entry
@@ -8,8 +8,8 @@ use Rattle.logic.specs.declared.nodes.Guard.TheVariants.{Any, By}
 use Rattle.logic.specs.declared.nodes.Kind.{Kind}
 use Rattle.logic.specs.declared.nodes.Kind.TheVariants as kind
 use Rattle.logic.specs.declared.nodes.Node.{Node}
-use Rattle.trees.specs.Trees.{EventTree, top, bottom, tau, event, not_event, both_events, either_events, Leaf, verum, falsum, final, named, Unary, negation, diamond, box_all, all_next, eventually, always, Binary, conjunction, disjunction, exists_until, all_until, exists_until_by, all_until_by, Tree, leaf, one, two, binder, inner, size}
-use Rattle.trees.specs.Numbering.{Atom, proposition, variable, Term, nodes_of, entries_of}
+use Rattle.trees.specs.Trees.{EventTree, top, bottom, tau, event, not_event, both_events, either_events, verum, falsum, final, named, negation, diamond, box_all, all_next, eventually, always, conjunction, disjunction, exists_until, all_until, exists_until_by, all_until_by, leaf, one, two, binder, inner, size}
+use Rattle.trees.specs.Numbering.{proposition, variable, Term, nodes_of, entries_of}
 use Rattle.trees.specs.Lawful.{closed, node_at}
 
 -- an entry over the trees of its parts

@@ -1,4 +1,4 @@
-use Rattle.std.proofs.Common.{◌+◌, ◌≤◌, length, sym, refl, arith, rules}
+use Rattle.std.proofs.Common.{◌+◌, ◌≤◌, length, refl, rules}
 use Rattle.lexer.proofs.Found.{found_end, found_mark, found_none, found_long, found_word, word_inside}
 use Rattle.lexer.proofs.next_token.Goals as goal
 

@@ -1,4 +1,4 @@
-use Rattle.std.proofs.Common.{◌<◌, ◌≤◌, ◌∙◌, arith}
+use Rattle.std.proofs.Common.{◌∙◌, arith}
 use Rattle.symbols.proofs.Onward.{lexed_onward, lexed_more, lexed_end, lexed_fault}
 use Rattle.symbols.proofs.is_lexed.Goals as goal
 

@@ -1,10 +1,10 @@
-use Rattle.std.proofs.Common.{◌≡◌, ℕ, suc, ◌+◌, ◌-◌, length, Some, Ok, Err, sym, ap, ◌∙◌, arith, rules}
+use Rattle.std.proofs.Common.{◌≡◌, suc, ◌+◌, ◌-◌, length, Some, Ok, sym, ap, ◌∙◌, arith}
 use Rattle.std.proofs.lemmas.Result.{err_from_is_err_and}
 use Rattle.layouts.specs.Layouts.{listed_at}
 use Rattle.contents.specs.NamesLine.{map_ok}
-use Rattle.contents.specs.MarksLine.{add_mark, marked_of}
+use Rattle.contents.specs.MarksLine.{add_mark}
 use Rattle.contents.proofs.Folds.{folding, fold_fault, fold_last, fold_more, fold_none}
-use Rattle.contents.proofs.Marking.{marked, marked_fold, state_fault}
+use Rattle.contents.proofs.Marking.{marked, marked_fold}
 use Rattle.contents.proofs.marks.read_marks.Goals as goal
 
 pub loop-turn-init : goal.loop-turn-init

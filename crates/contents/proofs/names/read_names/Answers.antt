@@ -1,9 +1,9 @@
-use Rattle.std.proofs.Common.{◌≡◌, ℕ, suc, ◌+◌, ◌-◌, List, length, Some, Ok, Err, sym, ap, ◌∙◌, arith, rules}
+use Rattle.std.proofs.Common.{◌≡◌, suc, ◌+◌, ◌-◌, length, Some, Ok, sym, ap, ◌∙◌, arith}
 use Rattle.std.specs.Option.{option_map}
 use Rattle.std.proofs.lemmas.Result.{err_from_is_err_and}
-use Rattle.layouts.specs.Layouts.{item_at, items_of}
+use Rattle.layouts.specs.Layouts.{item_at}
 use Rattle.text.specs.Held.{held}
-use Rattle.contents.specs.NamesLine.{accepted, item_of, names_of, seen_names}
+use Rattle.contents.specs.NamesLine.{accepted}
 use Rattle.contents.proofs.Folds.{folding, fold_fault, fold_last, fold_more, fold_none}
 use Rattle.contents.proofs.names.read_names.Goals as goal
 

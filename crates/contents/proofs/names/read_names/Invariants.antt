@@ -1,4 +1,4 @@
-use Rattle.std.proofs.Common.{◌≡◌, suc, ◌-◌, [], length, Some}
+use Rattle.std.proofs.Common.{◌≡◌, suc, ◌-◌, length}
 use Rattle.std.specs.Option.{option_map}
 use Rattle.layouts.specs.Layouts.{item_at}
 use Rattle.text.specs.Held.{held}

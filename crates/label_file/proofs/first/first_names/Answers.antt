@@ -1,4 +1,4 @@
-use Rattle.std.proofs.Common.{◌≡◌, sym, ap, ◌∙◌}
+use Rattle.std.proofs.Common.{sym, ◌∙◌}
 use Rattle.label_file.proofs.Naming.{row_none, row_open, row_some, found_fault, found_none, found_some}
 use Rattle.label_file.proofs.first.first_names.Goals as goal
 

@@ -1,4 +1,4 @@
-use Rattle.std.proofs.Common.{◌≡◌, true, false, leb, length, take, drop, replicate, sym, ap, ◌∙◌, subst, arith, length-drop, length-take}
+use Rattle.std.proofs.Common.{◌≡◌, true, false, leb, length, ap, ◌∙◌, subst, arith, length-take}
 use lib.ListN.{length-replicate}
 use Rattle.text.specs.Held.{held}
 use Rattle.text.specs.Numbering.{join_all, names_limit}

@@ -1,4 +1,4 @@
-use Rattle.std.proofs.Common.{◌≡◌, ℕ, Bool, cond, ◌&&◌, ltb, leb, is_some, Some, None, Option, sym, ap, ◌∙◌}
+use Rattle.std.proofs.Common.{◌≡◌, cond, ◌&&◌, ltb, leb, is_some, Some, None, sym, ◌∙◌}
 use Rattle.label_file.specs.Found.{row_of}
 use Rattle.label_file.proofs.Marking.{some_state, tests_pass, test_state, test_set}
 use Rattle.label_file.proofs.scans.lawful_state.Goals as goal

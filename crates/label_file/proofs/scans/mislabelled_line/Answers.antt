@@ -1,4 +1,4 @@
-use Rattle.std.proofs.Common.{◌≡◌, length, sym, ap, ◌∙◌, arith}
+use Rattle.std.proofs.Common.{length, sym, ◌∙◌, arith}
 use Rattle.files.proofs.Tiling.{line_onward}
 use Rattle.label_file.specs.Found.{row_of}
 use Rattle.label_file.proofs.Marking.{lawful_below, lines_none, line_bad, line_good}

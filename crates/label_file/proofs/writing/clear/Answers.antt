@@ -1,5 +1,5 @@
 use Rattle.std.proofs.Common.{arith}
-use Rattle.label_file.proofs.Sets.{clear_none, clear_more, clear_all}
+use Rattle.label_file.proofs.Sets.{clear_more, clear_all}
 use Rattle.label_file.proofs.writing.clear.Goals as goal
 
 pub loop-q-preserved : goal.loop-q-preserved

@@ -1,4 +1,4 @@
-use Rattle.std.proofs.Common.{◌≡◌, ◌<◌, length, sym, ap, ◌∙◌, subst, ⊎_elim, arith}
+use Rattle.std.proofs.Common.{sym, subst, ⊎_elim, arith}
 use Rattle.layouts.specs.Layouts.{marks_of}
 use Rattle.label_file.specs.LabelPart.{add_marks}
 use Rattle.label_file.specs.Found.{Changed}

@@ -1,4 +1,4 @@
-use Rattle.std.proofs.Common.{◌≡◌, ◌+◌, ◌<◌, List, [], ◌∷◌, ◌++◌, map, length, get_or, take, drop, replicate, sym, ap, ◌∙◌, arith, length-set, take-append-drop, take_all, drop-drop}
+use Rattle.std.proofs.Common.{◌≡◌, ◌+◌, ◌<◌, [], ◌∷◌, ◌++◌, map, length, get_or, take, drop, replicate, sym, ap, ◌∙◌, arith, length-set, take-append-drop, take_all, drop-drop}
 use Rattle.std.proofs.lemmas.List.{take_more_set, map_more, drop-set-lt, drop-replicate}
 use Rattle.text.specs.Held.{held}
 use Rattle.text.proofs.Tables.{held_length}

@@ -1,4 +1,4 @@
-use Rattle.std.proofs.Common.{◌≡◌, sym, ap, ◌∙◌, arith}
+use Rattle.std.proofs.Common.{sym, arith}
 use Rattle.files.proofs.Tiling.{line_onward}
 use Rattle.label_file.specs.Found.{row_of}
 use Rattle.label_file.proofs.Sets.{marking_none, marking_more, marking_all}

@@ -1,4 +1,4 @@
-use Rattle.std.proofs.Common.{◌≡◌, ℕ, ◌≤◌, List, [], ◌∷◌, length, sym, arith, rules}
+use Rattle.std.proofs.Common.{ℕ, ◌≤◌, List, [], ◌∷◌, length, sym, arith, rules}
 use Rattle.layouts.proofs.Matching.{piece_was, piece_inside}
 use Rattle.layouts.proofs.labels.read_item.Goals as goal
 

@@ -1,6 +1,6 @@
-use Rattle.std.proofs.Common.{◌≡◌, ◌+◌, ◌-◌, ◌<◌, ◌≤◌, true, false, length, drop, is_some, Err, sym, refl, ap, ◌∙◌, subst, arith, rules, true-eqb, false-eqb}
-use Rattle.layouts.specs.Numbers.{digits, zero_leads}
-use Rattle.layouts.proofs.Digits.{Sofar, within, begin, step, fifth, room, some_small, some_digits, none_digits, none_worth, number_none, number_zero, number_long, number_good, leads_none, leads_zero, leads_alone, next_some, next_none, number_read}
+use Rattle.std.proofs.Common.{◌≡◌, ◌+◌, ◌-◌, false, drop, is_some, Err, sym, ap, ◌∙◌, subst, arith, true-eqb, false-eqb}
+use Rattle.layouts.specs.Numbers.{zero_leads}
+use Rattle.layouts.proofs.Digits.{Sofar, within, begin, step, fifth, room, some_small, number_none, number_zero, number_long, leads_none, leads_zero, leads_alone, next_some, next_none, number_read}
 use Rattle.layouts.proofs.number.read_number.Goals as goal
 use Rattle.layouts.proofs.number.read_number.Goals.{else-first-eq0-via-then-first-eq0+else-is_some, else-first-eq0-via-else-first-eq0}
 

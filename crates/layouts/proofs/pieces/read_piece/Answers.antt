@@ -1,4 +1,4 @@
-use Rattle.std.proofs.Common.{◌≡◌, ◌+◌, ◌<◌, length, drop, sym, ◌∙◌, arith, rules}
+use Rattle.std.proofs.Common.{◌≡◌, length, drop, arith, rules}
 use Rattle.layouts.specs.Pieces.{matched}
 use Rattle.layouts.proofs.Matching.{match_more, match_differs, match_past, match_all, piece_differs, piece_stands}
 use Rattle.layouts.proofs.pieces.read_piece.Goals as goal

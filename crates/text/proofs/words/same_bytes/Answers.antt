@@ -1,4 +1,4 @@
-use Rattle.std.proofs.Common.{◌≡◌, ◌+◌, ◌&&◌, drop, sym, refl, ap, ◌∙◌, rules, eq-eqb, ne_eqb}
+use Rattle.std.proofs.Common.{◌+◌, ◌&&◌, drop, sym, ap, ◌∙◌, rules, eq-eqb, ne_eqb}
 use Rattle.text.specs.Words.{same}
 use Rattle.text.proofs.Runs.{same_long, same_more, same_all}
 use Rattle.text.proofs.words.same_bytes.Goals as goal

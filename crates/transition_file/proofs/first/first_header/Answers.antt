@@ -1,4 +1,4 @@
-use Rattle.std.proofs.Common.{◌≡◌, sym, ap, ◌∙◌}
+use Rattle.std.proofs.Common.{◌∙◌}
 use Rattle.transition_file.proofs.Scanning.{header_none, header_told}
 use Rattle.transition_file.proofs.first.first_header.Goals as goal
 

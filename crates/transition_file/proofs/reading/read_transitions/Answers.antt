@@ -1,4 +1,3 @@
-use Rattle.std.proofs.Common.{sym}
 use Rattle.text.specs.Held.{held}
 use Rattle.transition_file.proofs.Chain.{chain_line, chain_label, chain_states, chain_events, chain_good}
 use Rattle.transition_file.proofs.reading.read_transitions.Goals as goal

@@ -1,4 +1,4 @@
-use Rattle.std.proofs.Common.{◌≡◌, Bool, true, false, sym, ap, ◌∙◌, arith}
+use Rattle.std.proofs.Common.{◌≡◌, Bool, sym, ap, ◌∙◌, arith}
 use Rattle.files.specs.Lines.{Row}
 use Rattle.files.proofs.Tiling.{line_onward}
 use Rattle.layouts.specs.Layouts.{Arrow}

@@ -1,4 +1,4 @@
-use Rattle.std.proofs.Common.{◌≡◌, ◌≤◌, length, take, sym, ap, ◌∙◌, arith, length-take}
+use Rattle.std.proofs.Common.{◌≤◌, length, sym, ◌∙◌, arith, length-take}
 use Rattle.files.specs.Lines.{Row}
 use Rattle.files.proofs.Tiling.{line_onward}
 use Rattle.text.specs.Held.{held}

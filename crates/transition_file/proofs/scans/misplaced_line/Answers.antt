@@ -1,4 +1,4 @@
-use Rattle.std.proofs.Common.{◌≡◌, ℕ, suc, ◌+◌, ◌-◌, false, sym, ap, ◌∙◌, arith}
+use Rattle.std.proofs.Common.{◌≡◌, suc, ◌+◌, ◌-◌, false, sym, ◌∙◌, arith}
 use Rattle.files.specs.Lines.{Row}
 use Rattle.transition_file.specs.TransitionPart.{is_arrow}
 use Rattle.transition_file.proofs.Scanning.{missing_line, bad_line, good_line, no_more, one_more, open_row, other_row, arrow_row}

@@ -1,4 +1,4 @@
-use Rattle.std.proofs.Common.{◌*◌, ◌^◌, ◌<◌, sym, ap, ◌∙◌, mod-eq_of_lt, one-mul, arith, rules}
+use Rattle.std.proofs.Common.{◌*◌, ◌^◌, ◌<◌, sym, ap, ◌∙◌, mod-eq_of_lt, one-mul, arith}
 use Rattle.std.proofs.lemmas.Nat.{pow_below}
 use Rattle.transition_file.specs.Sets.{single}
 use Rattle.text.specs.Held.{held}

@@ -1,8 +1,8 @@
-use Rattle.std.proofs.Common.{◌≡◌, ◌+◌, drop, fold, sym, ap, ◌∙◌}
+use Rattle.std.proofs.Common.{◌+◌, drop, fold, sym, ap, ◌∙◌}
 use lib.Bits.{bit_or}
 use Rattle.std.proofs.lemmas.List.{at_drop_more, at_drop_all}
 use Rattle.text.specs.Held.{held}
-use Rattle.transition_file.specs.Sets.{add_name, set_in}
+use Rattle.transition_file.specs.Sets.{add_name}
 use Rattle.transition_file.proofs.writing.set_of.Goals as goal
 
 pub loop-name-preserved : goal.loop-name-preserved

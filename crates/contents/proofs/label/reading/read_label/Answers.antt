@@ -1,8 +1,6 @@
-use Rattle.std.proofs.Common.{◌≡◌, ℕ, ◌+◌, ◌-◌, ◌<◌, ◌≤◌, false, List, length, take, drop, sym, ap, ◌∙◌, arith, rules}
-use Rattle.std.specs.Option.{option_map}
+use Rattle.std.proofs.Common.{◌<◌, ◌≤◌, length, drop, sym, ◌∙◌, arith, rules}
 use Rattle.contents.specs.Labels.{pieces, label_limit}
-use Rattle.contents.specs.Labelled.{labelled}
-use Rattle.contents.proofs.Pieces.{Sofar, end_inside, no_name, last_name, last_size, step, label_bad, label_long, label_good, pieces_some}
+use Rattle.contents.proofs.Pieces.{end_inside, no_name, last_name, last_size, step, label_bad, label_long, label_good, pieces_some}
 use Rattle.contents.proofs.label.reading.read_label.Goals as goal
 
 pub slice_bounds-new-end : goal.slice_bounds-new-end
