@@ -2,7 +2,7 @@
 use Rattle.std.proofs.Common.{◌≡◌, ℕ, suc, ◌+◌, ◌<◌, ◌≤◌, Bool, true, false, cond, eqb, ltb, List, [], ◌∷◌, length, take, drop, Some, None, sym, refl, ap, ◌∙◌, subst, arith, length-drop, drop-drop, true-eqb}
 use Rattle.std.proofs.lemmas.Bool.{lt-ltb, le-ltb, ltb-true, ltb-false}
 use Rattle.std.proofs.lemmas.List.{drop_all}
-use Rattle.std.specs.List.{flat_map, AllByRecursion as All}
+use Rattle.std.specs.List.{flat_map, AllByRecursion}
 use Rattle.layouts.specs.Pieces.{before}
 use Rattle.layouts.proofs.Matching.{before_short}
 use Rattle.files.specs.Lines.{Row, line_at, lead, rows_from, line_of, end_of, printed_row, Whole, Follow, RowsTile}
@@ -23,15 +23,15 @@ tiles at (x ∷ xs) = go (eqb x 10) refl (tiles (suc at) xs)
     go true e h = let same : x ≡ 10 = true-eqb x 10 (sym e) in λ j. sym same j ∷ h j
     go false e h = tile_lead at x (rows_from (suc at) xs) ∙ ap (λ ys. x ∷ ys) h
 
-whole_lead : (at x : ℕ) (rs : List Row) → eqb x 10 ≡ false → All Whole rs → All Whole (lead at x rs)
+whole_lead : (at x : ℕ) (rs : List Row) → eqb x 10 ≡ false → AllByRecursion Whole rs → AllByRecursion Whole (lead at x rs)
 whole_lead at x [] e h = (ap (λ b. cond b 0 1) e, tt)
 whole_lead at x (r ∷ rs) e h = (ap (λ b. cond b 0 (suc (before 10 r.text))) e ∙ ap suc h.0, h.1)
 
-wholes : (at : ℕ) (xs : List ℕ) → All Whole (rows_from at xs)
+wholes : (at : ℕ) (xs : List ℕ) → AllByRecursion Whole (rows_from at xs)
 wholes at [] = tt
 wholes at (x ∷ xs) = go (eqb x 10) refl (wholes (suc at) xs)
   where
-    go : (b : Bool) → eqb x 10 ≡ b → All Whole (rows_from (suc at) xs) → All Whole (cond b (record { start = at; text = []; ended = true } ∷ rows_from (suc at) xs) (lead at x (rows_from (suc at) xs)))
+    go : (b : Bool) → eqb x 10 ≡ b → AllByRecursion Whole (rows_from (suc at) xs) → AllByRecursion Whole (cond b (record { start = at; text = []; ended = true } ∷ rows_from (suc at) xs) (lead at x (rows_from (suc at) xs)))
     go true e h = (refl, h)
     go false e h = whole_lead at x (rows_from (suc at) xs) e h
 

@@ -1,6 +1,6 @@
 -- The lines of a file. Assumes nothing.
 use Rattle.std.specs.Prelude.{◌≡◌, ℕ, suc, ◌+◌, Bool, true, false, cond, List, [], ◌∷◌, ◌++◌, length, take, drop, Some, None, Option, ◌==◌, nat_lt}
-use Rattle.std.specs.List.{flat_map, AllByRecursion as All}
+use Rattle.std.specs.List.{flat_map, AllByRecursion}
 use Rattle.layouts.specs.Pieces.{before}
 use Rattle.files.specs.declared.lines.Line.{Line}
 
@@ -55,7 +55,7 @@ Follow at (r ∷ (s ∷ rs)) = (r.start ≡ at) × (r.ended ≡ true) × Follow 
 
 -- the lines of a file are its bytes, cut behind each byte 10
 abbrev pub RowsTile : Type 0
-RowsTile = (file : List ℕ) → (flat_map printed_row (rows_of file) ≡ file) × All Whole (rows_of file) × Follow 0 (rows_of file)
+RowsTile = (file : List ℕ) → (flat_map printed_row (rows_of file) ≡ file) × AllByRecursion Whole (rows_of file) × Follow 0 (rows_of file)
 
 -- what the reader of a line gives, with the bytes in place of the borrowed part
 abbrev pub seen_line : Option Line → Option (Row × ℕ)

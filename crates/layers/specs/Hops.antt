@@ -1,7 +1,7 @@
 -- A system of two states and one move. Assumes nothing.
 use Rattle.std.specs.Prelude.{ℕ, ◌%◌, ◌^◌, ◌<◌, ◌≤◌, cond, [], ◌∷◌, length, ◌==◌}
 use Rattle.std.proofs.Common.{arith}
-use Rattle.std.specs.List.{AllByRecursion as All}
+use Rattle.std.specs.List.{AllByRecursion}
 use Rattle.std.proofs.lemmas.Nat.{mod_below, pow_pos}
 use Rattle.std.proofs.lemmas.Bool.{cond_both, cond-false, ne_eqb}
 use Rattle.systems.specs.Limits.{max_moves, max_events, max_propositions}
@@ -20,8 +20,8 @@ hop_lawful events = record {
     some = omega arith;
     few = omega arith;
     starts = omega arith;
-    lands = λ q. cond_both (q == 0) _ [] (All (λ m. m.target < 2)) (λ _. (omega arith, tt)) (λ _. tt);
-    fits = λ q. cond_both (q == 0) _ [] (All (λ m. m.events < 2 ^ max_events)) (λ _. (mod_below events (2 ^ max_events) (pow_pos max_events), tt)) (λ _. tt);
+    lands = λ q. cond_both (q == 0) _ [] (AllByRecursion (λ m. m.target < 2)) (λ _. (omega arith, tt)) (λ _. tt);
+    fits = λ q. cond_both (q == 0) _ [] (AllByRecursion (λ m. m.events < 2 ^ max_events)) (λ _. (mod_below events (2 ^ max_events) (pow_pos max_events), tt)) (λ _. tt);
     short = λ q. cond_both (q == 0) _ [] (λ ms. length ms ≤ max_moves) (λ _. omega arith) (λ _. omega arith);
     ends = λ q h. cond-false (q == 0) _ [] (ne_eqb q 0 (λ e. omega arith));
   };

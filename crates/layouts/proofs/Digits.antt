@@ -3,7 +3,7 @@ use Rattle.std.proofs.Common.{◌≡◌, ℕ, zero, suc, ◌+◌, ◌-◌, ◌*�
 use native.Mathlib.Nat.{pow-le-pow_right}
 use lib.ListN.{length-map}
 use Rattle.std.proofs.lemmas.Bool.{cond-true, cond-false, lt-ltb, le-ltb, ltb-false, cases_lt, and_parts, leb-true}
-use Rattle.std.specs.List.{AllByRecursion as All}
+use Rattle.std.specs.List.{AllByRecursion}
 use Rattle.layouts.specs.declared.number.Number.{Number}
 use Rattle.layouts.specs.declared.fault.NumberFault.{NumberFault}
 use Rattle.layouts.specs.Numbers.{digit_worth, front_worth, digits, worth, zero_leads, number_at, code, numeral, Stands, Numerals}
@@ -185,7 +185,7 @@ value v [] = v
 value v (d ∷ ds) = value (v * 10 + d) ds
 
 abbrev pub Small : List ℕ → Type 0
-Small ds = All (λ d. d < 10) ds
+Small ds = AllByRecursion (λ d. d < 10) ds
 
 digits_codes : (ds ys : List ℕ) → Small ds → digits (map code ds ++ ys) ≡ length ds + digits ys
 digits_codes [] ys h = omega arith

@@ -1,7 +1,7 @@
 -- The lines of the label file and their printed forms. Assumes nothing.
 use Rattle.std.proofs.Common.{◌≡◌, ℕ, suc, ◌+◌, ◌<◌, ◌≤◌, Bool, true, false, cond, eqb, List, [], ◌∷◌, ◌++◌, length, drop, Some, None, Ok, codes, Option, sym, refl, ap, ◌∙◌, subst, arith, length-append, length-drop, eq-eqb, ne_eqb, true-eqb}
 use Rattle.std.proofs.lemmas.List.{append_assoc, append-nil, drop_all}
-use Rattle.std.specs.List.{AllByRecursion as All}
+use Rattle.std.specs.List.{AllByRecursion}
 use Rattle.layouts.specs.declared.fault.LineFault.{LineFault}
 use Rattle.layouts.specs.Numbers.{numeral, digits}
 use Rattle.layouts.specs.Pieces.{and_then, piece_at, line_number_at}
@@ -92,10 +92,10 @@ item_more s i x y u w e =
     let d = item_left s i x w (codes " " ++ t) e in
     (j + 1, item_read s i x w (codes " " ++ t) e (Some (j + 1)) (next_some s j t d), piece_left s j (codes " ") t d)
 
-items_forth : (s : List ℕ) (its : List Item) → items_of s ≡ Ok its → (0 < length its) × All WritableItem its × (s ≡ printed_items its)
+items_forth : (s : List ℕ) (its : List Item) → items_of s ≡ Ok its → (0 < length its) × AllByRecursion WritableItem its × (s ≡ printed_items its)
 items_forth s its e = parts_forth s (codes " ") printed_item WritableItem (item_at s) (item_forth s) (suc (length s)) 0 its e
 
-items_back : (s : List ℕ) (its : List Item) → 0 < length its → All WritableItem its → s ≡ printed_items its → items_of s ≡ Ok its
+items_back : (s : List ℕ) (its : List Item) → 0 < length its → AllByRecursion WritableItem its → s ≡ printed_items its → items_of s ≡ Ok its
 items_back s its some all e =
     parts_back s (codes " ") printed_item WritableItem (item_at s) (item_last s) (item_more s) (suc (length s)) 0 its some (omega (arith, ap length e, parts_long (codes " ") printed_item item_long its)) all e
 
@@ -147,7 +147,7 @@ listed_more s i x y u w e =
     (j, listed_read s i x t w refl e ∙ ap (λ b. Ok (x, cond b None (Some j))) (ne_eqb j (length s) (λ z. omega (arith, length-drop j s, ap length d))), d)
 
 abbrev Noted : List ℕ → Marks → Type 0
-Noted s m = Writable m.state × (0 < length m.numbers) × All Writable m.numbers × (s ≡ printed_marks m)
+Noted s m = Writable m.state × (0 < length m.numbers) × AllByRecursion Writable m.numbers × (s ≡ printed_marks m)
 
 marks_forth : (s : List ℕ) (m : Marks) → marks_of s ≡ Ok m → Noted s m
 marks_forth s m e0 =
@@ -163,7 +163,7 @@ marks_forth s m e0 =
     sk.text ∙ ap (λ u. numeral k.value ++ u) (piece_text s k.after (codes ":") a p4 ∙ ap (λ u. codes ":" ++ u) (ap (λ j. drop j s) here ∙ t.2)) in
     subst (Noted s) ((λ j. record { state = (same j).value; numbers = ns }) ∙ ok_same {E = LineFault} _ m e2) (sk.small, t.0, t.1, text)))))
 
-marks_back : (s : List ℕ) (m : Marks) → Writable m.state → 0 < length m.numbers → All Writable m.numbers → s ≡ printed_marks m → marks_of s ≡ Ok m
+marks_back : (s : List ℕ) (m : Marks) → Writable m.state → 0 < length m.numbers → AllByRecursion Writable m.numbers → s ≡ printed_marks m → marks_of s ≡ Ok m
 marks_back s m w some all e0 =
     let parts : List ℕ = printed_parts [] listed m.numbers in
     let n1 = number_read s 0 m.state (codes ":" ++ parts) w e0 refl in

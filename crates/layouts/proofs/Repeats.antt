@@ -1,7 +1,7 @@
 -- A part of a line that repeats, and its printed form. Assumes nothing.
 use Rattle.std.proofs.Common.{◌≡◌, ℕ, zero, suc, ◌<◌, ◌≤◌, List, [], ◌∷◌, ◌++◌, length, drop, Some, None, Ok, Option, Result, sym, refl, ap, ◌∙◌, subst, arith, length-append}
 use Rattle.std.proofs.lemmas.List.{append_assoc, append-nil}
-use Rattle.std.specs.List.{flat_map, AllByRecursion as All}
+use Rattle.std.specs.List.{flat_map, AllByRecursion}
 use Rattle.layouts.specs.declared.fault.LineFault.{LineFault}
 use Rattle.layouts.specs.Layouts.{go_on, repeated}
 use Rattle.layouts.specs.Printed.{printed_parts}
@@ -14,7 +14,7 @@ rest piece s (Some j) = piece ++ drop j s
 
 module _ {X : Type 0} (s piece : List ℕ) (form : X → List ℕ) (W : X → Type 0) (one : ℕ → Result (X × Option ℕ) LineFault) where
   abbrev Told : ℕ → List X → Type 0
-  Told i xs = (0 < length xs) × All W xs × (drop i s ≡ printed_parts piece form xs)
+  Told i xs = (0 < length xs) × AllByRecursion W xs × (drop i s ≡ printed_parts piece form xs)
 
   module _ (told : (i : ℕ) (x : X × Option ℕ) → one i ≡ Ok x → W x.0 × (drop i s ≡ form x.0 ++ rest piece s x.1)) where
     -- one part, and what goes on after it
@@ -38,7 +38,7 @@ module _ {X : Type 0} (s piece : List ℕ) (form : X → List ℕ) (W : X → Ty
 
   module _ (last : (i : ℕ) (x : X) → W x → drop i s ≡ form x → one i ≡ Ok (x, None))
       (more : (i : ℕ) (x y : X) (u : List ℕ) → W x → drop i s ≡ form x ++ (piece ++ (form y ++ u)) → (j : ℕ) × (one i ≡ Ok (x, Some j)) × (drop j s ≡ form y ++ u)) where
-    pub parts_back : (turns i : ℕ) (xs : List X) → 0 < length xs → length xs ≤ turns → All W xs → drop i s ≡ printed_parts piece form xs → repeated one turns i ≡ Ok xs
+    pub parts_back : (turns i : ℕ) (xs : List X) → 0 < length xs → length xs ≤ turns → AllByRecursion W xs → drop i s ≡ printed_parts piece form xs → repeated one turns i ≡ Ok xs
     parts_back turns i [] some few all e = absurd (omega arith)
     parts_back zero i (x ∷ xs) some few all e = absurd (omega arith)
     parts_back (suc turns) i (x ∷ []) some few all e =

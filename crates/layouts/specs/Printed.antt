@@ -1,6 +1,6 @@
 -- How each line is written, and that a line reads as a content exactly if it is that content's printed form. Assumes nothing.
 use Rattle.std.specs.Prelude.{◌≡◌, ℕ, ◌<◌, List, [], ◌∷◌, ◌++◌, length, Ok, codes}
-use Rattle.std.specs.List.{flat_map, AllByRecursion as All}
+use Rattle.std.specs.List.{flat_map, AllByRecursion}
 use Rattle.layouts.specs.declared.transitions.Header.{Header}
 use Rattle.layouts.specs.Numbers.{numeral}
 use Rattle.layouts.specs.Pieces.{unquoted}
@@ -57,5 +57,5 @@ printed_marks m = numeral m.state ++ (codes ":" ++ printed_parts [] (λ n. codes
 pub record ReadsAsWritten : Type 0 where
   pub header : (s : List ℕ) (h : Header) → (header_of s ≡ Ok h → WritableHeader h × (s ≡ printed_header h)) × (WritableHeader h → s ≡ printed_header h → header_of s ≡ Ok h)
   pub transition : (s : List ℕ) (a : Arrow) → (transition_of s ≡ Ok a → WritableArrow a × (s ≡ printed_arrow a)) × (WritableArrow a → s ≡ printed_arrow a → transition_of s ≡ Ok a)
-  pub items : (s : List ℕ) (its : List Item) → (items_of s ≡ Ok its → (0 < length its) × All WritableItem its × (s ≡ printed_items its)) × (0 < length its → All WritableItem its → s ≡ printed_items its → items_of s ≡ Ok its)
-  pub marks : (s : List ℕ) (m : Marks) → (marks_of s ≡ Ok m → Writable m.state × (0 < length m.numbers) × All Writable m.numbers × (s ≡ printed_marks m)) × (Writable m.state → 0 < length m.numbers → All Writable m.numbers → s ≡ printed_marks m → marks_of s ≡ Ok m)
+  pub items : (s : List ℕ) (its : List Item) → (items_of s ≡ Ok its → (0 < length its) × AllByRecursion WritableItem its × (s ≡ printed_items its)) × (0 < length its → AllByRecursion WritableItem its → s ≡ printed_items its → items_of s ≡ Ok its)
+  pub marks : (s : List ℕ) (m : Marks) → (marks_of s ≡ Ok m → Writable m.state × (0 < length m.numbers) × AllByRecursion Writable m.numbers × (s ≡ printed_marks m)) × (Writable m.state → 0 < length m.numbers → AllByRecursion Writable m.numbers → s ≡ printed_marks m → marks_of s ≡ Ok m)

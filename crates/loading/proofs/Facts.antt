@@ -2,7 +2,7 @@
 use Rattle.std.proofs.Common.{◌≡◌, ℕ, zero, suc, ◌<◌, ◌≤◌, Bool, true, false, cond, ◌&&◌, ltb, leb, List, [], ◌∷◌, map, length, Some, None, Ok, Err, Option, Result, unwrap_or, sym, refl, ap, ◌∙◌, subst, arith}
 use Rattle.std.proofs.lemmas.Bool.{leb-true, ltb-true, and_parts}
 use Rattle.std.specs.Result.{result_ok}
-use Rattle.std.specs.List.{AllByRecursion as All}
+use Rattle.std.specs.List.{AllByRecursion}
 use Rattle.files.specs.Lines.{Row, rows_of}
 use Rattle.files.specs.declared.fault.Fault.{Fault}
 use Rattle.layouts.specs.Layouts.{Arrow, transition_of, Marks, marks_of}
@@ -85,12 +85,12 @@ arrow_passes : (p : Arrow → Bool) (r : Result Arrow LineFault) → asked p r �
 arrow_passes p (Ok a) h = h
 arrow_passes p (Err f) h = absurd (let z : ◌≡◌ {A = ℕ} 0 1 = cc in omega arith)
 
-pub all_pass : (p : Arrow → Bool) (rs : List Row) → failing (on_arrow p) rs ≡ None → All (λ a. p a ≡ true) (map (λ r. arrow_in r.text) rs)
+pub all_pass : (p : Arrow → Bool) (rs : List Row) → failing (on_arrow p) rs ≡ None → AllByRecursion (λ a. p a ≡ true) (map (λ r. arrow_in r.text) rs)
 all_pass p [] e = tt
 all_pass p (r ∷ rs) e = go (on_arrow p r) refl e (all_pass p rs)
   where
-    go : (b : Bool) → on_arrow p r ≡ b → cond b (failing (on_arrow p) rs) (Some r.start) ≡ None → (failing (on_arrow p) rs ≡ None → All (λ a. p a ≡ true) (map (λ r. arrow_in r.text) rs)) →
-        (p (arrow_in r.text) ≡ true) × All (λ a. p a ≡ true) (map (λ r. arrow_in r.text) rs)
+    go : (b : Bool) → on_arrow p r ≡ b → cond b (failing (on_arrow p) rs) (Some r.start) ≡ None → (failing (on_arrow p) rs ≡ None → AllByRecursion (λ a. p a ≡ true) (map (λ r. arrow_in r.text) rs)) →
+        (p (arrow_in r.text) ≡ true) × AllByRecursion (λ a. p a ≡ true) (map (λ r. arrow_in r.text) rs)
     go true q h ih = (arrow_passes p (transition_of r.text) q, ih h)
     go false q h ih = absurd (let z : ◌≡◌ {A = ℕ} 0 1 = cc in omega arith)
 
@@ -126,11 +126,11 @@ line_within n k least q true (Ok m) e = on (ltb m.state n) refl (leb least m.sta
 line_within n k least q true (Err f) e = absurd (let z : ◌≡◌ {A = ℕ} 0 1 = cc in omega arith)
 line_within n k least q false r e = absurd (let z : ◌≡◌ {A = ℕ} 0 1 = cc in omega arith)
 
-pub all_within : (n k least : ℕ) (rs : List Row) → mislabelled n k least rs ≡ None → All (λ r. Within n (marks_of r.text)) rs
+pub all_within : (n k least : ℕ) (rs : List Row) → mislabelled n k least rs ≡ None → AllByRecursion (λ r. Within n (marks_of r.text)) rs
 all_within n k least [] e = tt
 all_within n k least (r ∷ rs) e = go (lawful_state n k least r) refl e (λ next. all_within n k next rs)
   where
-    go : (o : Option ℕ) → lawful_state n k least r ≡ o → or_start o r.start (λ next. mislabelled n k next rs) ≡ None → ((next : ℕ) → mislabelled n k next rs ≡ None → All (λ r. Within n (marks_of r.text)) rs) →
-        Within n (marks_of r.text) × All (λ r. Within n (marks_of r.text)) rs
+    go : (o : Option ℕ) → lawful_state n k least r ≡ o → or_start o r.start (λ next. mislabelled n k next rs) ≡ None → ((next : ℕ) → mislabelled n k next rs ≡ None → AllByRecursion (λ r. Within n (marks_of r.text)) rs) →
+        Within n (marks_of r.text) × AllByRecursion (λ r. Within n (marks_of r.text)) rs
     go None q h ih = absurd (let z : ◌≡◌ {A = ℕ} 0 1 = cc in omega arith)
     go (Some s) q h ih = (line_within n k least s r.ended (marks_of r.text) q, ih (suc s) h)

@@ -6,7 +6,7 @@ use Rattle.std.proofs.lemmas.Nat.{pow_below, pow_pos}
 use Rattle.std.proofs.lemmas.List.FromFn.{length-map-range_with_len, get_or-map-range_with_len}
 use Rattle.std.proofs.lemmas.List.{take_at, get_or_append_left, get_or-append_right, get_or-drop, ext_get_or}
 use Rattle.std.proofs.lemmas.Bool.{cond-true, cond-false, lt-ltb, le-ltb, cases_lt, and_parts}
-use Rattle.std.specs.List.{range_with_len, AllByRecursion as All}
+use Rattle.std.specs.List.{range_with_len, AllByRecursion}
 use Rattle.std.specs.Option.{option_map}
 use Rattle.files.specs.Lines.{Row}
 use Rattle.layouts.specs.Layouts.{Arrow, Marks, marks_of}
@@ -57,7 +57,7 @@ module _ (n q : ℕ) (known : List Name) (few : length known ≤ 64) where
       on true = refl
       on false = refl
 
-  pub moves_same : (ars : List Arrow) → All (λ a. joins_states n a ≡ true) ars → map move_of (filter (counts n q) (map (record_in known) ars)) ≡ map (move_in known) (filter (λ a. eqb a.source q) ars)
+  pub moves_same : (ars : List Arrow) → AllByRecursion (λ a. joins_states n a ≡ true) ars → map move_of (filter (counts n q) (map (record_in known) ars)) ≡ map (move_in known) (filter (λ a. eqb a.source q) ars)
   moves_same [] h = refl
   moves_same (a ∷ ars) h =
       ap (λ b. map move_of (cond b (record_in known a ∷ filter (counts n q) (map (record_in known) ars)) (filter (counts n q) (map (record_in known) ars)))) (counts_same a h.0) ∙
@@ -77,7 +77,7 @@ kept_short p (x ∷ xs) = go (p x) (kept_short p xs)
     go false h = omega arith
 
 -- the moves of a table whose first records are those of the transitions
-pub moves_meant : (n m : ℕ) (known : List Name) (ars : List Arrow) (rest : List Transition) → length known ≤ 64 → All (λ a. joins_states n a ≡ true) ars → length ars ≡ m → m ≤ max_moves → (q : ℕ) →
+pub moves_meant : (n m : ℕ) (known : List Name) (ars : List Arrow) (rest : List Transition) → length known ≤ 64 → AllByRecursion (λ a. joins_states n a ≡ true) ars → length ars ≡ m → m ≤ max_moves → (q : ℕ) →
     map move_of (take max_moves (countingAt n q (take m (map (record_in known) ars ++ rest)))) ≡ map (move_in known) (filter (λ a. eqb a.source q) ars)
 moves_meant n m known ars rest few all size short q =
     let xs : List Transition = map (record_in known) ars in
@@ -87,11 +87,11 @@ moves_meant n m known ars rest few all size short q =
     moves_same n q known few ars all
 
 -- what the lines give a state is below 2 ^ 64, and nothing from the number of states up
-masks_below : (known names : List Name) → length known ≤ 64 → All (λ s. s < 2 ^ 64) (masks known names)
+masks_below : (known names : List Name) → length known ≤ 64 → AllByRecursion (λ s. s < 2 ^ 64) (masks known names)
 masks_below known [] h = tt
 masks_below known (n ∷ names) h = (bit_below known n h, masks_below known names h)
 
-read_below : (ms : List ℕ) (i : ℕ) → All (λ s. s < 2 ^ 64) ms → get_or ms i 0 < 2 ^ 64
+read_below : (ms : List ℕ) (i : ℕ) → AllByRecursion (λ s. s < 2 ^ 64) ms → get_or ms i 0 < 2 ^ 64
 read_below [] i h = pow_pos 64
 read_below (m ∷ ms) zero h = h.0
 read_below (m ∷ ms) (suc i) h = read_below ms i h.1
@@ -100,7 +100,7 @@ abbrev Small : Option ℕ → Type 0
 Small None = Unit {0}
 Small (Some s) = s < 2 ^ 64
 
-listing_below : (ms : List ℕ) → All (λ s. s < 2 ^ 64) ms → (ns : List ℕ) (o : Option Listing) → Small (option_map (λ l. l.set) o) → Small (option_map (λ l. l.set) (fold (add_mark ms) o ns))
+listing_below : (ms : List ℕ) → AllByRecursion (λ s. s < 2 ^ 64) ms → (ns : List ℕ) (o : Option Listing) → Small (option_map (λ l. l.set) o) → Small (option_map (λ l. l.set) (fold (add_mark ms) o ns))
 listing_below ms h [] o s = s
 listing_below ms h (n ∷ ns) o s = listing_below ms h ns (add_mark ms o n) (one o s)
   where
@@ -116,7 +116,7 @@ add_below : (s : ℕ) (o : Option ℕ) → s < 2 ^ 64 → Small o → add_set s 
 add_below s None h k = h
 add_below s (Some t) h k = or_lt 64 s t h k
 
-row_below : (ms : List ℕ) (q s : ℕ) (r : Result Marks LineFault) → All (λ s. s < 2 ^ 64) ms → s < 2 ^ 64 → add_marks ms q s r < 2 ^ 64
+row_below : (ms : List ℕ) (q s : ℕ) (r : Result Marks LineFault) → AllByRecursion (λ s. s < 2 ^ 64) ms → s < 2 ^ 64 → add_marks ms q s r < 2 ^ 64
 row_below ms q s (Err f) h l = l
 row_below ms q s (Ok m) h l = go (eqb m.state q)
   where
@@ -124,7 +124,7 @@ row_below ms q s (Ok m) h l = go (eqb m.state q)
     go true = add_below s (set_of ms m.numbers) l (listing_below ms h m.numbers (Some (record { least = 0; set = 0 })) (pow_pos 64))
     go false = l
 
-labels_small : (ms : List ℕ) (q : ℕ) (rs : List Row) (s : ℕ) → All (λ s. s < 2 ^ 64) ms → s < 2 ^ 64 → fold (add_row ms q) s rs < 2 ^ 64
+labels_small : (ms : List ℕ) (q : ℕ) (rs : List Row) (s : ℕ) → AllByRecursion (λ s. s < 2 ^ 64) ms → s < 2 ^ 64 → fold (add_row ms q) s rs < 2 ^ 64
 labels_small ms q [] s h l = l
 labels_small ms q (r ∷ rs) s h l = labels_small ms q rs (add_row ms q s r) h (row_below ms q s (marks_of r.text) h l)
 
@@ -132,11 +132,11 @@ row_past : (ms : List ℕ) (n q s : ℕ) (r : Result Marks LineFault) → Within
 row_past ms n q s (Ok m) w h = cond-false (eqb m.state q) _ _ (ne_eqb m.state q (λ e. omega arith))
 row_past ms n q s (Err f) w h = absurd w
 
-labels_past : (ms : List ℕ) (n q : ℕ) (rs : List Row) (s : ℕ) → All (λ r. Within n (marks_of r.text)) rs → n ≤ q → fold (add_row ms q) s rs ≡ s
+labels_past : (ms : List ℕ) (n q : ℕ) (rs : List Row) (s : ℕ) → AllByRecursion (λ r. Within n (marks_of r.text)) rs → n ≤ q → fold (add_row ms q) s rs ≡ s
 labels_past ms n q [] s w h = refl
 labels_past ms n q (r ∷ rs) s w h = ap (λ t. fold (add_row ms q) t rs) (row_past ms n q s (marks_of r.text) w.0 h) ∙ labels_past ms n q rs s w.1 h
 
-pub labels_meant : (n : ℕ) (known names : List Name) (rs : List Row) (sets : List ℕ) → length known ≤ 64 → All (λ r. Within n (marks_of r.text)) rs → ((q : ℕ) → q < n → get_or sets q 0 ≡ labels_at (masks known names) rs q) → (q : ℕ) →
+pub labels_meant : (n : ℕ) (known names : List Name) (rs : List Row) (sets : List ℕ) → length known ≤ 64 → AllByRecursion (λ r. Within n (marks_of r.text)) rs → ((q : ℕ) → q < n → get_or sets q 0 ≡ labels_at (masks known names) rs q) → (q : ℕ) →
     cond (ltb q n) (get_or sets q 0 % 2 ^ 64) 0 ≡ labels_at (masks known names) rs q
 labels_meant n known names rs sets few all read q = ⊎_elim
     (λ lt. cond-true (ltb q n) _ _ (lt-ltb q n lt) ∙ ap (λ s. s % 2 ^ 64) (read q lt) ∙ mod-eq_of_lt (labels_small (masks known names) q rs 0 (masks_below known names few) (pow_pos 64)))

@@ -2,13 +2,13 @@
 use Rattle.std.specs.Prelude.{◌≡◌, ℕ, zero, suc, ◌%◌, ◌^◌, ◌<◌, ◌≤◌, false, List, [], ◌∷◌, length, nat_eq, nat_lt, slice_index_or}
 use Rattle.std.proofs.Common.{ap, ◌∙◌, arith}
 use Rattle.std.proofs.Math.Nat.{zero-div}
-use Rattle.std.specs.List.{AllByRecursion as All}
+use Rattle.std.specs.List.{AllByRecursion}
 use Rattle.std.proofs.lemmas.Bool.{and_left, and_right, le-ltb}
 use Rattle.systems.specs.Limits.{max_moves, max_events, max_propositions}
 use Rattle.systems.specs.Meaning.{Transitions, Meaning, LawfulTransitions, Lawful, member, move_count, missing, events_at, target_at, holds}
 
 -- what holds of each element and of the default holds of what is read anywhere
-pub all_read : {X : Type 0} (P : X → Type 0) (xs : List X) (i : ℕ) (d : X) → All P xs → P d → P (slice_index_or xs i d)
+pub all_read : {X : Type 0} (P : X → Type 0) (xs : List X) (i : ℕ) (d : X) → AllByRecursion P xs → P d → P (slice_index_or xs i d)
 all_read P [] i d a h = h
 all_read P (x ∷ xs) zero d a h = a.0
 all_read P (x ∷ xs) (suc i) d a h = all_read P xs i d a.1 h

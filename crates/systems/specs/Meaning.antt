@@ -1,6 +1,6 @@
 -- What a system means, what can be asked of it, and the law that every system keeps. Assumes nothing.
 use Rattle.std.specs.Prelude.{◌≡◌, ℕ, ◌/◌, ◌%◌, ◌^◌, ◌<◌, ◌≤◌, Bool, ◌&&◌, List, [], length, ◌==◌, nat_lt, slice_index_or}
-use Rattle.std.specs.List.{AllByRecursion as All}
+use Rattle.std.specs.List.{AllByRecursion}
 use Rattle.systems.specs.Limits.{max_states, max_moves, max_events, max_propositions}
 
 -- a move: the set of its events as a number, whose bit e is the event e, and the state that it leads to
@@ -52,8 +52,8 @@ pub record LawfulTransitions (t : Transitions) : Type 0 where
   pub some : 1 ≤ t.states
   pub few : t.states ≤ max_states
   pub starts : t.initial < t.states
-  pub lands : (q : ℕ) → All (λ m. m.target < t.states) (t.moves q)
-  pub fits : (q : ℕ) → All (λ m. m.events < 2 ^ max_events) (t.moves q)
+  pub lands : (q : ℕ) → AllByRecursion (λ m. m.target < t.states) (t.moves q)
+  pub fits : (q : ℕ) → AllByRecursion (λ m. m.events < 2 ^ max_events) (t.moves q)
   pub short : (q : ℕ) → length (t.moves q) ≤ max_moves
   pub ends : (q : ℕ) → t.states ≤ q → t.moves q ≡ []
 

@@ -2,7 +2,7 @@
 use Rattle.std.specs.Prelude.{◌≡◌, ℕ, ◌^◌, ◌<◌, ◌≤◌, Bool, true, false, ◌&&◌, ◌⊎◌, List, [], ◌∷◌, map, take, filter, ◌==◌, nat_lt, slice_index, refl}
 use Rattle.std.proofs.Common.{ap, ◌∙◌, inl, inr, arith, length-take}
 use Rattle.std.proofs.lemmas.List.{length-map}
-use Rattle.std.specs.List.{AllByRecursion as All}
+use Rattle.std.specs.List.{AllByRecursion}
 use Rattle.std.proofs.lemmas.Nat.{mod_below, pow_pos}
 use Rattle.std.proofs.ByRecursion.{All-map, All-take, All-weaker, kept_by_passes}
 use Rattle.std.proofs.lemmas.Bool.{cond_both, cond-false, and_parts, and_left, and_right, le-ltb, ltb-true, ne_eqb, cases_lt}
@@ -17,7 +17,7 @@ kept_none p h [] = refl
 kept_none p h (x ∷ xs) = cond-false (p x) (x ∷ filter p xs) (filter p xs) (h x) ∙ kept_none p h xs
 
 -- what holds of each record that counts holds of each move of a table
-all_moves : (P : Move → Type 0) (states q : ℕ) (records : List Transition) → ((r : Transition) → counts states q r ≡ true → P (move_of r)) → All P (map move_of (take max_moves (counting states q records)))
+all_moves : (P : Move → Type 0) (states q : ℕ) (records : List Transition) → ((r : Transition) → counts states q r ≡ true → P (move_of r)) → AllByRecursion P (map move_of (take max_moves (counting states q records)))
 all_moves P states q records each =
     let kept = counting states q records in
     All-map P move_of (take max_moves kept)

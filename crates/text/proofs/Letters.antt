@@ -1,6 +1,6 @@
 -- The bytes of a word: none is 0, and each is below 256.
 use Rattle.std.proofs.Common.{◌≡◌, ℕ, zero, suc, ◌<◌, ◌≤◌, Bool, true, false, cond, ◌&&◌, ◌||◌, T, eqb, List, [], ◌∷◌, length, sym, refl, ap, ◌∙◌, ⊎_elim, arith}
-use Rattle.std.specs.List.{AllByRecursion as All}
+use Rattle.std.specs.List.{AllByRecursion}
 use Rattle.std.proofs.lemmas.Bool.{cases_lt, and_parts, or_cases, eqb-true, false≢true, lt-leb, le-leb, ne_eqb}
 use Rattle.classes.specs.Bytes.{class_rule}
 use Rattle.classes.specs.declared.Class.TheVariants.{Letter, Underscore, Digit, Dot, Other}
@@ -55,16 +55,16 @@ inner_solid (suc n) e = (omega arith, ⊎_elim (λ lt. lt) (λ le. absurd (false
 goes_solid : (x : ℕ) (xs : List ℕ) → goes_on (x ∷ xs) ≡ true → Solid x
 goes_solid x xs e = ⊎_elim (inner_solid x) (λ f. let is : x ≡ 58 = eqb-true x 58 (and_parts (eqb x 58) (leads xs) f).0 in (omega arith, omega arith)) (or_cases (is_inner x) (eqb x 58 && leads xs) e)
 
-run_solid : (xs : List ℕ) → word_len xs ≡ length xs → All Solid xs
+run_solid : (xs : List ℕ) → word_len xs ≡ length xs → AllByRecursion Solid xs
 run_solid [] e = tt
 run_solid (x ∷ xs) e = by (goes_on (x ∷ xs)) refl (run_solid xs)
   where
-    by : (b : Bool) → goes_on (x ∷ xs) ≡ b → (word_len xs ≡ length xs → All Solid xs) → All Solid (x ∷ xs)
+    by : (b : Bool) → goes_on (x ∷ xs) ≡ b → (word_len xs ≡ length xs → AllByRecursion Solid xs) → AllByRecursion Solid (x ∷ xs)
     by true g rest = (goes_solid x xs g, rest (omega (arith, ap (λ t. cond t (suc (word_len xs)) 0) g)))
     by false g rest = absurd (omega (arith, ap (λ t. cond t (suc (word_len xs)) 0) g))
 
 pub word_short : (v : List ℕ) → T (is_word v) → length v ≤ word_limit
 word_short v t = ((by_bytes v).0 (T_true (is_word v) t)).short
 
-pub word_solid : (v : List ℕ) → T (is_word v) → All Solid v
+pub word_solid : (v : List ℕ) → T (is_word v) → AllByRecursion Solid v
 word_solid v t = run_solid v (word_whole v (T_true (is_word v) t))

@@ -1,7 +1,7 @@
 -- Bytes packed into numbers, and read back from them.
 use Rattle.std.proofs.Common.{◌≡◌, ℕ, zero, suc, ◌+◌, ◌-◌, ◌*◌, ◌/◌, ◌%◌, ◌^◌, ◌<◌, ◌≤◌, true, false, cond, ◌&&◌, eqb, List, [], ◌∷◌, length, get_or, drop, sym, refl, ap, ◌∙◌, ⊎_elim, le_of_suc-le-suc, add-zero, mod-eq_of_lt, zero-add, div-one, arith}
 use native.Mathlib.Nat.{zero-div, zero-mod, add-mul-mod_self_left}
-use Rattle.std.specs.List.{AllByRecursion as All}
+use Rattle.std.specs.List.{AllByRecursion}
 use Rattle.std.proofs.lemmas.Nat.{shr-shr}
 use Rattle.std.proofs.lemmas.List.{at_drop_more, at_drop_all, get_or_past, get_or-drop, ext_get_or}
 use Rattle.std.proofs.lemmas.Bool.{cases_lt, and_parts, and_from, eqb-true, eq-eqb, ne_eqb, cond_below, cond_above}
@@ -22,7 +22,7 @@ packed_more n s bytes = ⊎_elim
     (cases_lt s (length bytes))
 
 -- the byte at j of a number that n bytes are packed in
-digit : (n j : ℕ) (bytes : List ℕ) → All Solid bytes → j < n → packed n bytes / 2 ^ (8 * j) % 256 ≡ get_or bytes j 0
+digit : (n j : ℕ) (bytes : List ℕ) → AllByRecursion Solid bytes → j < n → packed n bytes / 2 ^ (8 * j) % 256 ≡ get_or bytes j 0
 digit zero j bytes s h = absurd (omega arith)
 digit (suc n) j [] s h = ap (λ m. m % 256) (zero-div (2 ^ (8 * j))) ∙ zero-mod 256
 digit (suc n) zero (b ∷ bytes) s h = ap (λ m. m % 256) (div-one (b + 256 * packed n bytes)) ∙ add-mul-mod_self_left b 256 (packed n bytes) ∙ mod-eq_of_lt s.0.1
@@ -33,13 +33,13 @@ digit (suc n) (suc j) (b ∷ bytes) s h =
     let rest : w / 256 ≡ packed n bytes = omega arith in
     ap (λ m. w / 2 ^ m % 256) on ∙ ap (λ m. m % 256) (sym (shr-shr w 8 (8 * j))) ∙ ap (λ m. m / 2 ^ (8 * j) % 256) rest ∙ digit n j bytes s.1 (le_of_suc-le-suc h)
 
-solid_drop : (n : ℕ) (v : List ℕ) → All Solid v → All Solid (drop n v)
+solid_drop : (n : ℕ) (v : List ℕ) → AllByRecursion Solid v → AllByRecursion Solid (drop n v)
 solid_drop zero v h = h
 solid_drop (suc n) [] h = h
 solid_drop (suc n) (b ∷ v) h = solid_drop n v h.1
 
 -- the byte at i, in the number w that holds the bytes from d on
-part_byte : (w d k i : ℕ) (v : List ℕ) → All Solid v → w ≡ packed 8 (drop d v) → k < 8 → i ≡ d + k → i % 8 ≡ k → w / 2 ^ (8 * (i % 8)) % 256 ≡ get_or v i 0
+part_byte : (w d k i : ℕ) (v : List ℕ) → AllByRecursion Solid v → w ≡ packed 8 (drop d v) → k < 8 → i ≡ d + k → i % 8 ≡ k → w / 2 ^ (8 * (i % 8)) % 256 ≡ get_or v i 0
 part_byte w d k i v s p h e m =
     (λ j. p j / 2 ^ (8 * m j) % 256) ∙ digit 8 k (drop d v) (solid_drop d v s) h ∙ get_or-drop d v k 0 ∙ ap (λ n. get_or v n 0) (sym e)
 
@@ -57,7 +57,7 @@ module _ (n : Name) (i : ℕ) where
   in_none : 24 ≤ i → part_of n i ≡ 0
   in_none l = sym (cond_above i 8 n.first _ 0 (omega arith) (cond_above i 16 n.second _ 0 (omega arith) (cond_above i 24 n.third 0 0 l refl)))
 
-byte_back : (v : List ℕ) → All Solid v → length v ≤ 24 → (i : ℕ) → byte_of (name_of v) i ≡ get_or v i 0
+byte_back : (v : List ℕ) → AllByRecursion Solid v → length v ≤ 24 → (i : ℕ) → byte_of (name_of v) i ≡ get_or v i 0
 byte_back v s h i =
     ⊎_elim (λ lt. part_byte _ 0 i i v s (in_first (name_of v) i lt) lt (omega arith) (omega arith))
     (λ a. ⊎_elim (λ lt. part_byte _ 8 (i - 8) i v s (in_second (name_of v) i a lt) (omega arith) (omega arith) (omega arith))
@@ -82,7 +82,7 @@ module _ (n : Name) (i total : ℕ) (h : i < 24) (inv : i + solid_from n i (24 -
       let end : solid_from n i (24 - i) ≡ 0 = ap (solid_from n i) left ∙ ap (λ t. cond t 0 (suc (solid_from n (i + 1) (24 - (i + 1))))) (eq-eqb (byte_of n i) 0 e) in
       omega (arith, end)
 
-solid_length : (n : Name) (k i : ℕ) (xs : List ℕ) → All Solid xs → length xs ≤ k → ((j : ℕ) → byte_of n (i + j) ≡ get_or xs j 0) → solid_from n i k ≡ length xs
+solid_length : (n : Name) (k i : ℕ) (xs : List ℕ) → AllByRecursion Solid xs → length xs ≤ k → ((j : ℕ) → byte_of n (i + j) ≡ get_or xs j 0) → solid_from n i k ≡ length xs
 solid_length n zero i [] s h e = refl
 solid_length n zero i (x ∷ xs) s h e = absurd (omega arith)
 solid_length n (suc k) i [] s h e = ap (λ t. cond t 0 (suc (solid_from n (i + 1) k))) (eq-eqb (byte_of n i) 0 (ap (byte_of n) (sym (add-zero i)) ∙ e 0))
