@@ -1,10 +1,10 @@
 // Reports on the behaviour table in the folder it is run in: `model.aut` and `model.lab`.
 #![tactic(auto)]
 
-use anyhow::anyhow;
 use files::fault::Fault;
 use loading::shape::load;
 use loading::vocabulary::Vocabulary;
+use std::process::ExitCode;
 use systems::transition::Transition;
 
 mod input;
@@ -22,14 +22,14 @@ fn refuse(
     transitions: &[u8],
     labels: &[u8],
     fault: &Fault,
-) -> anyhow::Result<()> {
+) -> anyhow::Result<ExitCode> {
     let heap = rt.alloc();
     rt.print(wording::numbered(heap, transitions, labels, fault)?.as_str())?;
     rt.eprint(wording::worded(heap, transitions, labels, fault)?.as_str())?;
-    Err(anyhow!("refused"))
+    Ok(ExitCode::FAILURE)
 }
 
-fn main(rt: HostRuntime) -> anyhow::Result<()> {
+fn main(rt: HostRuntime) -> anyhow::Result<ExitCode> {
     let heap = rt.alloc();
     let transitions = input::read_some(&rt, "model.aut")?;
     let labels = input::read_some(&rt, "model.lab")?;
@@ -51,7 +51,7 @@ fn main(rt: HostRuntime) -> anyhow::Result<()> {
         Ok(shape) => {
             let text = report::report(heap, shape, &records, &sets, &vocabulary)?;
             rt.print(text.as_str())?;
-            Ok(())
+            Ok(ExitCode::SUCCESS)
         }
         Err(fault) => refuse(&rt, &transitions, &labels, &fault),
     }
