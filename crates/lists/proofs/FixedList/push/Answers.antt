@@ -1,0 +1,7 @@
+use Rattle.std.proofs.Common.{arith}
+use Rattle.lists.specs.FilledLaw.{one_more}
+use Rattle.lists.proofs.FixedList.push.Goals as goal
+
+pub invariant_of-self : goal.invariant_of-self
+invariant_of-self g c =
+    one_more _ _ _ _ c.self.invariant c.args.x (omega (arith, c.self.invariant.within, c.if-self.false))

@@ -1,0 +1,107 @@
+// Lists of at most so many items, kept in place without a heap.
+#![tactic(auto)]
+
+ghost use Rattle.std.specs.Prelude.{◌≡◌, ◌↔◌, ◌++◌, ◌∷◌, [], length, is_ok, nat_lt, OnOk, OnErr, IfSome, IsNone};
+
+use std::alloc::AllocError;
+use std::marker::Model;
+
+// A kind of item with a value that stands where there is no item.
+pub trait Blank: Copy {
+    ghost blank: { Self };
+
+    fn blank() -> Self
+        ensures { result ≡ blank };
+}
+
+// There is no room for another item.
+#[derive(Clone, Copy, Debug, PartialEq, Eq)]
+pub struct ListFull;
+
+// At most N items, in the first `count` places; the places behind them hold blanks. Who writes the fields proves that this stays so.
+pub struct FixedList<T: Blank, const N: usize> {
+    pub places: [T; N],
+    pub count: usize,
+}
+
+// Clauses see the items, in order.
+impl<T: Blank, const N: usize> Model for FixedList<T, N> {
+    ghost use Rattle.std.specs.Prelude.{List, take, length};
+    ghost use Rattle.lists.specs.Filled.{Filled, filled};
+    ghost use Rattle.lists.specs.FilledLaw.{places_back, held_count};
+
+    ghost Value = { List T };
+
+    ghost view = { λ l. take l.count l.places };
+
+    ghost invariant = { λ l. Filled N T.Blank.blank l.count l.places };
+
+    ghost inverse = { λ xs. record { places = filled N T.Blank.blank xs; count = length xs } };
+
+    ghost inverse_ok = { λ l h. (λ j. record { places = places_back N T.Blank.blank l.count l.places h j; count = held_count N T.Blank.blank l.count l.places h j }) };
+}
+
+impl<T: Blank, const N: usize> Clone for FixedList<T, N> {
+    ghost is_clone = { λ a b. b ≡ a };
+
+    fn clone(&self) -> Result<Self, AllocError> {
+        Ok(*self)
+    }
+}
+
+impl<T: Blank, const N: usize> Copy for FixedList<T, N> {}
+
+impl<T: Blank, const N: usize> FixedList<T, N> {
+    // A list without items.
+    pub fn new() -> Self
+        ensures { result ≡ [] }
+    {
+        FixedList {
+            places: [T::blank(); N],
+            count: 0,
+        }
+    }
+
+    // The items, in order.
+    pub fn as_slice(&self) -> &[T]
+        ensures { result.now ≡ self.now }
+    {
+        &self.places[..self.count]
+    }
+
+    // The number of items.
+    pub fn len(&self) -> usize
+        ensures { result ≡ length self.now }
+    {
+        self.as_slice().len()
+    }
+
+    // One item more at the end, unless there are N.
+    pub fn push(&mut self, x: T) -> Result<(), ListFull>
+        ensures fits { is_ok result ≡ nat_lt (length self.old) N }
+        ensures ok { OnOk result (self.new ≡ self.old ++ x ∷ []) }
+        ensures err { OnErr result (self.new ≡ self.old) }
+    {
+        if self.count == N {
+            return Err(ListFull);
+        }
+        self.places[self.count] = x;
+        self.count += 1;
+        Ok(())
+    }
+
+    // Takes the last item, if there is one.
+    pub fn pop(&mut self) -> Option<T>
+        ensures some { IfSome result (λ x. self.old ≡ self.new ++ x ∷ []) }
+        ensures none { IsNone result ↔ (self.old ≡ []) }
+        ensures kept { IsNone result → self.new ≡ self.old }
+    {
+        if self.count == 0 {
+            return None;
+        }
+        self.count -= 1;
+        let last = self.places[self.count];
+        self.places[self.count] = T::blank();
+        Some(last)
+    }
+}
