@@ -1,5 +1,5 @@
 #!/usr/bin/env python3
-"""Lists the places in crates/*/src that read like an older language, by patterns, for docs/DESIGN-PASS.md.
+"""Lists the places in crates/*/src that read like the Rattle of before traits, iterators and closures, by patterns, for docs/DESIGN-PASS.md.
 
     tools/places.py [-v] [COMMIT]     counts by point and pattern; -v also names the places; without COMMIT the files as they lie here
 """

@@ -1,23 +1,17 @@
 -- What rules show of a move, and the proof that they show what they say. Assumes nothing.
-use Rattle.std.proofs.Common.{◌≡◌, ℕ, zero, suc, ◌^◌, ◌<◌, Bool, true, false, cond, ◌&&◌, ◌||◌, eqb, List, [], ◌∷◌, map, length, get_or, fold, sym, refl, ap, ◌∙◌, ⊎_elim, arith}
+use Rattle.std.proofs.Common.{◌≡◌, ℕ, zero, suc, ◌^◌, ◌<◌, Bool, true, false, cond, ◌&&◌, ◌||◌, eqb, List, [], ◌∷◌, length, get_or, fold, sym, refl, ap, ◌∙◌, ⊎_elim, arith}
 use lib.Bits.{bit_or}
+use Rattle.std.proofs.Math.Bool.{or-false, or_assoc}
 use lib.ListN.{length-map}
 use Rattle.std.proofs.lemmas.Bool.{cond-false, and_parts, and_from, or_cases, or_left, or_right, eqb-true, eq-eqb, false≢true}
 use Rattle.systems.specs.Meaning.{Transitions, missing, move_count, move_at, events_at, target_at, member}
 use Rattle.systems.specs.Law.{member_none}
-use Rattle.systems.proofs.Sets.{member_or, member_one}
+use Rattle.systems.proofs.Kept.{read_map}
+use Rattle.systems.proofs.Members.{member_or, member_one}
 use Rattle.abstraction.specs.Rules.{blank}
 use Rattle.abstraction.specs.Abstracted.{with_shown, shown_by, shown_move, abstracted_transitions}
 use Rattle.abstraction.specs.Showing.{Shows, ShowsExactly}
 use Rattle.abstraction.specs.declared.rule.Rule.{Rule}
-
-or_false : (a : Bool) → (a || false) ≡ a
-or_false true = refl
-or_false false = refl
-
-or_assoc : (a b c : Bool) → ((a || b) || c) ≡ (a || (b || c))
-or_assoc true b c = refl
-or_assoc false b c = refl
 
 -- whether some rule shows e, as a test
 shows : List Rule → (events e : ℕ) → Bool
@@ -26,11 +20,11 @@ shows (r ∷ rules) events e = (member events r.seen && eqb r.shown e) || shows 
 
 step : (f : Bool) (set s e : ℕ) → member (cond f (bit_or set (2 ^ s)) set) e ≡ (member set e || (f && eqb s e))
 step true set s e = member_or set (2 ^ s) e ∙ ap (λ b. member set e || b) (member_one s e)
-step false set s e = sym (or_false (member set e))
+step false set s e = sym (or-false (member set e))
 
 onwards : (events e : ℕ) (rules : List Rule) (set : ℕ) → member (fold (with_shown events) set rules) e ≡ (member set e || shows rules events e)
 unfolding shows
-onwards events e [] set = sym (or_false (member set e))
+onwards events e [] set = sym (or-false (member set e))
 onwards events e (r ∷ rules) set =
     onwards events e rules (with_shown events set r)
     ∙ ap (λ b. b || shows rules events e) (step (member events r.seen) set r.shown e)
@@ -57,12 +51,6 @@ row_shows (r ∷ rules) events e (suc row) h seen shown = or_right (member event
 shown_none : (rules : List Rule) → shown_by rules 0 ≡ 0
 shown_none [] = refl
 shown_none (r ∷ rules) = ap (λ n. fold (with_shown 0) n rules) (cond-false (member 0 r.seen) (bit_or 0 (2 ^ r.shown)) 0 (member_none r.seen)) ∙ shown_none rules
-
--- what a function makes of an element and of the default, it makes of what is read anywhere
-read_map : {X Y : Type 0} (f : X → Y) (xs : List X) (i : ℕ) (d : X) (e : Y) → f d ≡ e → get_or (map f xs) i e ≡ f (get_or xs i d)
-read_map f [] i d e h = sym h
-read_map f (x ∷ xs) zero d e h = refl
-read_map f (x ∷ xs) (suc i) d e h = read_map f xs i d e h
 
 module _ (rules : List Rule) (t : Transitions) (q : ℕ) where
   pub shown_count : move_count (abstracted_transitions rules t) q ≡ move_count t q

@@ -1,10 +1,10 @@
 -- A system keeps the law as a sheet shows it. Assumes nothing.
-use Rattle.std.proofs.Common.{ap, arith, length-take}
+use Rattle.std.proofs.Common.{ap, arith}
 use Rattle.std.specs.Prelude.{ℕ, ◌^◌, ◌<◌, List, [], ◌∷◌, map, fold, bit_or}
 use Rattle.std.specs.List.{AllByRecursion}
 use Rattle.std.proofs.lemmas.Nat.{pow_below, or_lt}
 use Rattle.std.proofs.ByRecursion.{All-map, All-from_get_or}
-use Rattle.std.proofs.lemmas.List.{get_or-take, length-map}
+use Rattle.std.proofs.lemmas.List.{length-map}
 use Rattle.std.proofs.lemmas.Bool.{cond_both}
 use Rattle.systems.specs.Limits.{max_events}
 use Rattle.systems.specs.Meaning.{Move, Meaning, Lawful, member}
@@ -45,7 +45,4 @@ abstracted_lawful rules small m law = record {
 
 -- the rules of a sheet are of events
 pub held_small : (s : Sheet) → AllByRecursion Small (held s)
-held_small s = All-from_get_or Small (held s) blank (λ k h.
-    let below : k < s.len = omega (arith, length-take s.len s.rules) in
-    let is = get_or-take s.len s.rules k blank below in
-    record { seen = omega (arith, ap (λ r. r.seen) is, (s.small k below).0); shown = omega (arith, ap (λ r. r.shown) is, (s.small k below).1) })
+held_small s = All-from_get_or Small (held s) blank (λ k h. record { seen = (s.small k blank h).0; shown = (s.small k blank h).1 })

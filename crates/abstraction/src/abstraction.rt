@@ -1,6 +1,5 @@
 ghost use Rattle.std.specs.Prelude.{◌≡◌};
-ghost use Rattle.systems.specs.Meaning.{move_count, events_at, target_at};
-ghost use Rattle.abstraction.specs.Abstracted.{abstracted_transitions, abstracted};
+ghost use Rattle.abstraction.specs.Abstracted.{abstracted};
 ghost use Rattle.abstraction.specs.AbstractedLaw.{abstracted_lawful, held_small};
 ghost use Rattle.abstraction.specs.Held.{held};
 
@@ -21,27 +20,6 @@ impl<'a, S: System> Abstraction<'a, S> {
     {
         Abstraction { below, sheet }
     }
-
-    // How many moves leave the state `q`: as many as below.
-    fn shown_move_count(&self, q: u16) -> usize
-        ensures { result ≡ move_count (abstracted_transitions (held self.now.sheet) (S.System.meaning self.now.below.now).transitions) q }
-    {
-        self.below.move_count(q)
-    }
-
-    // The events that the rules show of the move `i` of the state `q`.
-    fn shown_events(&self, q: u16, i: usize) -> u64
-        ensures { result ≡ events_at (abstracted_transitions (held self.now.sheet) (S.System.meaning self.now.below.now).transitions) q i }
-    {
-        self.sheet.show(self.below.events(q, i))
-    }
-
-    // Where the move `i` of the state `q` leads: where it leads below.
-    fn shown_target(&self, q: u16, i: usize) -> u16
-        ensures { result ≡ target_at (abstracted_transitions (held self.now.sheet) (S.System.meaning self.now.below.now).transitions) q i }
-    {
-        self.below.target(q, i)
-    }
 }
 
 impl<'a, S: System> System for Abstraction<'a, S> {
@@ -57,16 +35,19 @@ impl<'a, S: System> System for Abstraction<'a, S> {
         self.below.initial()
     }
 
+    #[tactic(auto, using(crate::proofs::Shown::shown_count))]
     fn move_count(&self, q: u16) -> usize {
-        self.shown_move_count(q)
+        self.below.move_count(q)
     }
 
+    #[tactic(auto, using(crate::proofs::Shown::shown_events))]
     fn events(&self, q: u16, i: usize) -> u64 {
-        self.shown_events(q, i)
+        self.sheet.show(self.below.events(q, i))
     }
 
+    #[tactic(auto, using(crate::proofs::Shown::shown_target))]
     fn target(&self, q: u16, i: usize) -> u16 {
-        self.shown_target(q, i)
+        self.below.target(q, i)
     }
 
     fn holds(&self, q: u16, p: u8) -> bool {

@@ -2,7 +2,7 @@ ghost use Rattle.std.specs.Prelude.{◌≡◌};
 ghost use Rattle.abstraction.specs.Rules.{number_of};
 
 // Why a rule is not added to a sheet.
-#[derive(Clone, Copy)]
+#[derive(Clone, Copy, Debug, PartialEq, Eq)]
 pub enum RuleRefusal {
     // The sheet holds 16 rules.
     SheetFull,
@@ -10,12 +10,12 @@ pub enum RuleRefusal {
     NoSuchEvent,
 }
 
-impl RuleRefusal {
-    // The number under which the refusal is told.
-    pub fn number(self) -> u8
-        ensures { result ≡ number_of self }
-    {
-        match self {
+// The number under which the refusal is told.
+impl From<RuleRefusal> for u8 {
+    ghost from_gives = { λ e n. n ≡ number_of e };
+
+    fn from(refusal: RuleRefusal) -> u8 {
+        match refusal {
             RuleRefusal::SheetFull => 23,
             RuleRefusal::NoSuchEvent => 24,
         }

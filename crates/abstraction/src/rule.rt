@@ -1,25 +1,28 @@
 ghost use Rattle.std.specs.Prelude.{◌≡◌, ◌^◌, ◌<◌};
 ghost use Rattle.systems.specs.Limits.{max_events};
-ghost use Rattle.systems.specs.Meaning.{member};
 ghost use Rattle.abstraction.specs.Abstracted.{with_shown};
-ghost use Rattle.abstraction.specs.Rules.{Small};
+ghost use Rattle.abstraction.specs.Rules.{blank};
+
+use lists::Blank;
+use systems::sets::has;
 
 // A rule: a move that has the event `seen` shows the event `shown`.
-#[derive(Clone, Copy)]
+#[derive(Clone, Copy, Debug, Default, PartialEq, Eq)]
 pub struct Rule {
     pub seen: u8,
     pub shown: u8,
 }
 
-// Whether the event is in the set.
-fn has(set: u64, event: u8) -> bool
-    requires { event < max_events }
-    ensures { result ≡ member set event }
-{
-    (set >> event) % 2 == 1
+// Stands where a sheet has no rule.
+impl Blank for Rule {
+    ghost blank = { blank };
+
+    fn blank() -> Rule {
+        Rule::default()
+    }
 }
 
-// The set of one event.
+// The set of one event, as `bit_of` makes that of a name's place.
 fn only(event: u8) -> u64
     requires { event < max_events }
     ensures { result ≡ 2 ^ event }
@@ -30,7 +33,7 @@ fn only(event: u8) -> u64
 impl Rule {
     // The set, with the rule's shown event if its seen event is among the events.
     pub(crate) fn add_shown(self, events: u64, set: u64) -> u64
-        requires { Small self }
+        requires { (self.seen < max_events) × (self.shown < max_events) }
         ensures { result ≡ with_shown events set self }
     {
         if has(events, self.seen) {

@@ -1,18 +1,16 @@
-ghost use Rattle.std.specs.Prelude.{◌≡◌, ℕ, ◌<◌, ◌≤◌, length, slice_index_or};
+ghost use Rattle.std.specs.Prelude.{◌<◌};
+ghost use Rattle.std.specs.List.{All};
 ghost use Rattle.systems.specs.Limits.{max_events};
-ghost use Rattle.abstraction.specs.Rules.{max_rules, blank};
 
 use crate::rule::Rule;
+use lists::FixedList;
 
 // The most rules of a sheet.
 pub const MAX_RULES: usize = 16;
 
 // The rules by which an abstraction shows events, at most 16.
-#[derive(Clone, Copy)]
+#[derive(Clone, Copy, Debug, PartialEq, Eq)]
 pub struct Sheet {
-    pub(crate) rules: [Rule; MAX_RULES],
-    pub(crate) len: usize,
-    ghost few: { len ≤ max_rules },
-    ghost whole: { length rules ≡ max_rules },
-    ghost small: { ((k : ℕ) → k < len → ((slice_index_or rules k blank).seen < max_events) × ((slice_index_or rules k blank).shown < max_events)) },
+    pub(crate) rules: FixedList<Rule, MAX_RULES>,
+    ghost small: { All (λ r. (r.seen < max_events) × (r.shown < max_events)) rules },
 }

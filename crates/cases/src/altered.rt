@@ -1,14 +1,15 @@
 // Tables over records and sets that are not as the load left them.
 use crate::bench::Bench;
 use crate::facts::{print_facts, print_move, print_state};
+use files::pair::Files;
 use loading::shape::Shape;
 use std::io;
 use systems::transition::Transition;
-use tables::table::Table;
 
-const MODEL: &str = "des (1, 4, 3)\n(0, \"a\", 1)\n(1, \"b\", 2)\n(0, \"i\", 2)\n(2, \"a;b\", 0)\n";
-
-const LABELS: &str = "0=\"init\" 1=\"deadlock\" 2=\"p\"\n0: 2\n1: 0\n2: 1 2\n";
+const FILES: Files<'static> = Files {
+    transitions: b"des (1, 4, 3)\n(0, \"a\", 1)\n(1, \"b\", 2)\n(0, \"i\", 2)\n(2, \"a;b\", 0)\n",
+    labels: b"0=\"init\" 1=\"deadlock\" 2=\"p\"\n0: 2\n1: 0\n2: 1 2\n",
+};
 
 // Puts a record at a place.
 fn put(bench: &mut Bench, place: usize, source: u16, events: u64, target: u16) {
@@ -24,14 +25,14 @@ fn put(bench: &mut Bench, place: usize, source: u16, events: u64, target: u16) {
 // The facts of the table over all the records and sets.
 fn print_all(rt: &HostRuntime, title: &str, shape: Shape, bench: &Bench) -> io::Result<()> {
     println!(rt; "{title}")?;
-    let table = Table::new(shape, &bench.records, &bench.sets);
+    let table = bench.table(shape);
     print_facts(rt, &table, &bench.vocabulary)
 }
 
 // States and moves past the last ones.
 fn print_past(rt: &HostRuntime, shape: Shape, bench: &Bench) -> io::Result<()> {
     println!(rt; "past the last state and the last move")?;
-    let table = Table::new(shape, &bench.records, &bench.sets);
+    let table = bench.table(shape);
     for q in [3, 4, 256, 65_535] {
         print_state(rt, &table, &bench.vocabulary, q)?;
         print_move(rt, &table, &bench.vocabulary, q, 0)?;
@@ -79,7 +80,7 @@ fn run_shorter(rt: &HostRuntime, shape: Shape, bench: &mut Bench) -> io::Result<
 pub fn run(rt: &HostRuntime) -> io::Result<()> {
     println!(rt; "altered tables")?;
     let mut bench = Bench::new(rt.alloc(), 6, 5)?;
-    let Ok(shape) = bench.load(MODEL.as_bytes(), LABELS.as_bytes()) else {
+    let Ok(shape) = bench.load(FILES) else {
         return println!(rt; "refused");
     };
     put(&mut bench, 4, 0, 1, 0);
@@ -87,7 +88,7 @@ pub fn run(rt: &HostRuntime) -> io::Result<()> {
     print_all(rt, "more records and sets than are read", shape, &bench)?;
     print_past(rt, shape, &bench)?;
     run_altered(rt, shape, &mut bench)?;
-    let Ok(shape) = bench.load(MODEL.as_bytes(), LABELS.as_bytes()) else {
+    let Ok(shape) = bench.load(FILES) else {
         return println!(rt; "refused");
     };
     run_shorter(rt, shape, &mut bench)

@@ -1,19 +1,12 @@
 // What a load answers, as a line of text.
-use files::fault::{Fault, File, failing_line};
+use files::fault::Fault;
+use files::pair::Files;
+use files::shown::printable;
 use loading::shape::Shape;
 use std::alloc::{AllocError, Global};
 
 // A text is shown up to this many bytes.
 const SHOWN: usize = 80;
-
-// The byte as a character that can be printed; `?` where it has none.
-pub fn printable(b: u8) -> char {
-    if 32 <= b && b <= 126 {
-        char::from(b)
-    } else {
-        '?'
-    }
-}
 
 // The bytes as text that can be printed, cut where it is long.
 pub fn text_of(heap: Global, bytes: &[u8]) -> Result<String, AllocError> {
@@ -27,39 +20,24 @@ pub fn text_of(heap: Global, bytes: &[u8]) -> Result<String, AllocError> {
     Ok(text)
 }
 
-// What a file is called.
-fn file_name(file: File) -> &'static str {
-    match file {
-        File::Transitions => "model.aut",
-        File::Labels => "model.lab",
-    }
-}
-
 // The number of the question; where a line is at fault also the file, the start of the line and the line.
-fn refusal(
-    heap: Global,
-    transitions: &[u8],
-    labels: &[u8],
-    fault: &Fault,
-) -> Result<String, AllocError> {
-    let number = fault.number();
+fn refusal(heap: Global, files: Files<'_>, fault: Fault) -> Result<String, AllocError> {
+    let number = u8::from(fault);
     let Some((file, start)) = fault.place() else {
         return format!(in heap; "{number}");
     };
-    let name = file_name(file);
-    let line = text_of(heap, failing_line(transitions, labels, fault))?;
+    let line = text_of(heap, files.failing_line(&fault))?;
     if line.is_empty() {
-        format!(in heap; "{number} {name} {start}")
+        format!(in heap; "{number} {file} {start}")
     } else {
-        format!(in heap; "{number} {name} {start} {line}")
+        format!(in heap; "{number} {file} {start} {line}")
     }
 }
 
 // What the load answers.
 pub fn answer(
     heap: Global,
-    transitions: &[u8],
-    labels: &[u8],
+    files: Files<'_>,
     res: &Result<Shape, Fault>,
 ) -> Result<String, AllocError> {
     match res {
@@ -68,6 +46,6 @@ pub fn answer(
             let moves = shape.moves();
             format!(in heap; "ok {states} states {moves} moves")
         }
-        Err(fault) => refusal(heap, transitions, labels, fault),
+        Err(fault) => refusal(heap, files, *fault),
     }
 }

@@ -1,138 +1,79 @@
-// A vocabulary and tables to load texts into.
+// A vocabulary and tables to load files into.
 use crate::answers::answer;
 use files::fault::Fault;
+use files::pair::Files;
 use loading::shape::{Shape, load};
 use loading::vocabulary::Vocabulary;
 use std::alloc::{AllocError, Global};
+use systems::limits::{MAX_MOVES, MAX_STATES};
 use systems::transition::Transition;
-use text::numbering::Names;
+use tables::table::Table;
 
-#[derive(Drop)]
+#[derive(Clone, Drop, PartialEq)]
 pub struct Bench {
     pub vocabulary: Vocabulary,
     pub records: Vec<Transition>,
     pub sets: Vec<u64>,
 }
 
-// What came of a load, whether it was refused, and whether everything is as it was before.
+// What a load answered, in words too, and whether everything is as it was before.
 #[derive(Drop)]
 pub struct Loaded {
+    pub result: Result<Shape, Fault>,
     pub said: String,
-    pub refused: bool,
     pub kept: bool,
-}
-
-// Whether the two tables hold the same names.
-fn same_names(a: &Names, b: &Names) -> bool {
-    for (x, y) in a.names().iter().zip(b.names().iter()) {
-        if !x.same(y) {
-            return false;
-        }
-    }
-    a.len() == b.len()
-}
-
-// Whether the two tables hold the same records.
-fn same_records(a: &[Transition], b: &[Transition]) -> bool {
-    for (x, y) in a.iter().zip(b.iter()) {
-        if x.source != y.source || x.events != y.events || x.target != y.target {
-            return false;
-        }
-    }
-    a.len() == b.len()
-}
-
-// Whether the two tables hold the same sets.
-fn same_sets(a: &[u64], b: &[u64]) -> bool {
-    for (x, y) in a.iter().zip(b.iter()) {
-        if *x != *y {
-            return false;
-        }
-    }
-    a.len() == b.len()
 }
 
 impl Bench {
     // No names, and tables of these lengths with something in every place.
-    pub fn new(heap: Global, records: u16, sets: u16) -> Result<Bench, AllocError> {
-        let mut bench = Bench {
+    pub fn new(heap: Global, records: usize, sets: usize) -> Result<Bench, AllocError> {
+        let fillers = (0..u16::MAX).take(records).map(|target| Transition {
+            source: 900,
+            events: 7,
+            target,
+        });
+        Ok(Bench {
             vocabulary: Vocabulary::new(),
-            records: Vec::new(heap),
-            sets: Vec::new(heap),
-        };
-        for target in 0..records {
-            let filler = Transition {
-                source: 900,
-                events: 7,
-                target,
-            };
-            bench.records.push(filler)?;
-        }
-        for set in 0..sets {
-            bench.sets.push(u64::from(set))?;
-        }
-        Ok(bench)
+            records: fillers.collect(heap)?,
+            sets: (0..u64::MAX).take(sets).collect(heap)?,
+        })
     }
 
-    // Loads the two texts.
-    pub fn load(&mut self, transitions: &[u8], labels: &[u8]) -> Result<Shape, Fault> {
+    // Loads the files.
+    pub fn load(&mut self, files: Files<'_>) -> Result<Shape, Fault> {
         load(
-            transitions,
-            labels,
+            files,
             &mut self.vocabulary,
             &mut self.records,
             &mut self.sets,
         )
     }
 
-    fn copy(&self, heap: Global) -> Result<Bench, AllocError> {
-        Ok(Bench {
-            vocabulary: self.vocabulary,
-            records: self.records.to_vec(heap)?,
-            sets: self.sets.to_vec(heap)?,
-        })
+    // The table of this shape over all the records and sets.
+    pub fn table(&self, shape: Shape) -> Table<'_> {
+        Table::new(shape, &self.records, &self.sets)
     }
 
-    fn same(&self, other: &Bench) -> bool {
-        same_names(self.vocabulary.events(), other.vocabulary.events())
-            && same_names(
-                self.vocabulary.propositions(),
-                other.vocabulary.propositions(),
-            )
-            && same_records(&self.records, &other.records)
-            && same_sets(&self.sets, &other.sets)
-    }
-
-    // Loads the two texts, and tells what came of it.
-    pub fn run(
-        &mut self,
-        heap: Global,
-        transitions: &[u8],
-        labels: &[u8],
-    ) -> Result<Loaded, AllocError> {
-        let before = self.copy(heap)?;
-        let result = self.load(transitions, labels);
-        let said = answer(heap, transitions, labels, &result)?;
+    // Loads the files, and tells what came of it.
+    pub fn run(&mut self, heap: Global, files: Files<'_>) -> Result<Loaded, AllocError> {
+        let before = self.clone()?;
+        let result = self.load(files);
+        let said = answer(heap, files, &result)?;
         Ok(Loaded {
+            result,
             said,
-            refused: result.is_err(),
-            kept: self.same(&before),
+            kept: *self == before,
         })
     }
 }
 
 // What a load into new tables of the greatest size says, and whether a refusal changed anything.
-pub fn outcome_of(heap: Global, transitions: &[u8], labels: &[u8]) -> Result<String, AllocError> {
-    let mut bench = Bench::new(heap, 1024, 256)?;
-    let done = bench.run(heap, transitions, labels)?;
+pub fn outcome(heap: Global, files: Files<'_>) -> Result<String, AllocError> {
+    let mut bench = Bench::new(heap, MAX_MOVES, MAX_STATES)?;
+    let done = bench.run(heap, files)?;
     let mut said = done.said;
-    if done.refused && !done.kept {
+    if done.result.is_err() && !done.kept {
         said.push_str(" and changed something")?;
     }
     Ok(said)
-}
-
-// The same for two texts.
-pub fn outcome(heap: Global, transitions: &str, labels: &str) -> Result<String, AllocError> {
-    outcome_of(heap, transitions.as_bytes(), labels.as_bytes())
 }

@@ -1,69 +1,69 @@
 // Small texts with at most one thing wrong.
 use crate::answers::text_of;
-use crate::bench::{outcome, outcome_of};
-use crate::texts::{LABELS, MODEL, labelled, marked};
+use crate::bench::outcome;
+use crate::texts::{LABELS, MODEL, both, labelled, marked};
 use std::io;
 
 // First lines of a transition file, and what follows.
-const HEADERS: &[&str] = &[
-    "",
-    "\n",
-    "des (0, 0, 1)",
-    "des(0, 1, 1)\n(0, \"i\", 0)\n",
-    "des (0, 01, 1)\n(0, \"i\", 0)\n",
-    "des (00, 0, 1)\n",
-    "des (0, 10000, 1)\n",
-    "des (0,0, 1)\n",
-    "des (0, 0,  1)\n",
-    "des (0, 0, 1) \n",
-    "des (0, 0, 1)\r\n",
-    " des (0, 0, 1)\n",
-    "Des (0, 0, 1)\n",
-    "des (0, 0)\n",
-    "des (0, 0, 1\n",
-    "des (-0, 0, 1)\n",
-    "des (, 0, 1)\n",
-    "\ndes (0, 0, 1)\n",
-    "des (0, 0, 0)\n",
-    "des (0, 0, 257)\n",
-    "des (0, 1025, 1)\n",
-    "des (0, 9999, 1)\n",
-    "des (1, 0, 1)\n",
-    "des (256, 0, 256)\n",
-    "des (0, 0, 1)\n",
-    "des (255, 0, 256)\n",
+const HEADERS: &[&[u8]] = &[
+    b"",
+    b"\n",
+    b"des (0, 0, 1)",
+    b"des(0, 1, 1)\n(0, \"i\", 0)\n",
+    b"des (0, 01, 1)\n(0, \"i\", 0)\n",
+    b"des (00, 0, 1)\n",
+    b"des (0, 10000, 1)\n",
+    b"des (0,0, 1)\n",
+    b"des (0, 0,  1)\n",
+    b"des (0, 0, 1) \n",
+    b"des (0, 0, 1)\r\n",
+    b" des (0, 0, 1)\n",
+    b"Des (0, 0, 1)\n",
+    b"des (0, 0)\n",
+    b"des (0, 0, 1\n",
+    b"des (-0, 0, 1)\n",
+    b"des (, 0, 1)\n",
+    b"\ndes (0, 0, 1)\n",
+    b"des (0, 0, 0)\n",
+    b"des (0, 0, 257)\n",
+    b"des (0, 1025, 1)\n",
+    b"des (0, 9999, 1)\n",
+    b"des (1, 0, 1)\n",
+    b"des (256, 0, 256)\n",
+    b"des (0, 0, 1)\n",
+    b"des (255, 0, 256)\n",
 ];
 
 // Transition files with a lawful first line.
-const MOVES: &[&str] = &[
-    "des (0, 1, 2)\n",
-    "des (0, 1024, 1)\n",
-    "des (0, 2, 2)\n(0, \"a\", 1)\n",
-    "des (0, 1, 2)\n(0, \"a\", 1)",
-    "des (0, 1, 2)\n(0, \"a\", 1)\n(1, \"a\", 0)\n",
-    "des (0, 0, 2)\n(0, \"a\", 1)\n",
-    "des (0, 1, 2)\n(0, \"a\", 1)\nx",
-    "des (0, 1, 2)\n(0, \"a\", 1)\n\n",
-    "des (0, 2, 2)\n(0, \"a\", 1)\n\n(1, \"a\", 0)\n",
-    "des (0, 2, 2)\n(0, \"a\", 1)\n[1, \"a\", 0]\n",
-    "des (0, 1, 2)\n(0, a, 1)\n",
-    "des (0, 1, 2)\n(0, \"a, 1)\n",
-    "des (0, 1, 2)\n(0, \"a\"b\", 1)\n",
-    "des (0, 1, 2)\n(0, \"a\nb\", 1)\n",
-    "des (0, 1, 2)\n(0, \"a\", 1\", 1)\n",
-    "des (0, 1, 2)\n(0,\"a\", 1)\n",
-    "des (0, 1, 2)\n(0, \"a\",  1)\n",
-    "des (0, 1, 2)\n(00, \"a\", 1)\n",
-    "des (0, 1, 2)\n(0, \"a\", 01)\n",
-    "des (0, 1, 2)\n(0, \"a\", 10000)\n",
-    "des (0, 1, 2)\n(0, \"a\", 1).\n",
-    "des (0, 1, 2)\n(0, \"a\", 1)\r\n",
-    "des (0, 1, 2)\n(2, \"a\", 1)\n",
-    "des (0, 1, 2)\n(0, \"a\", 2)\n",
-    "des (0, 1, 2)\n(9999, \"i\", 0)\n",
-    "des (0, 2, 2)\n(0, \"a\", 1)\n(1, \"a\", 9)\n",
-    "des (0, 1, 256)\n(255, \"a\", 256)\n",
-    "des (0, 1, 256)\n(255, \"a\", 255)\n",
+const MOVES: &[&[u8]] = &[
+    b"des (0, 1, 2)\n",
+    b"des (0, 1024, 1)\n",
+    b"des (0, 2, 2)\n(0, \"a\", 1)\n",
+    b"des (0, 1, 2)\n(0, \"a\", 1)",
+    b"des (0, 1, 2)\n(0, \"a\", 1)\n(1, \"a\", 0)\n",
+    b"des (0, 0, 2)\n(0, \"a\", 1)\n",
+    b"des (0, 1, 2)\n(0, \"a\", 1)\nx",
+    b"des (0, 1, 2)\n(0, \"a\", 1)\n\n",
+    b"des (0, 2, 2)\n(0, \"a\", 1)\n\n(1, \"a\", 0)\n",
+    b"des (0, 2, 2)\n(0, \"a\", 1)\n[1, \"a\", 0]\n",
+    b"des (0, 1, 2)\n(0, a, 1)\n",
+    b"des (0, 1, 2)\n(0, \"a, 1)\n",
+    b"des (0, 1, 2)\n(0, \"a\"b\", 1)\n",
+    b"des (0, 1, 2)\n(0, \"a\nb\", 1)\n",
+    b"des (0, 1, 2)\n(0, \"a\", 1\", 1)\n",
+    b"des (0, 1, 2)\n(0,\"a\", 1)\n",
+    b"des (0, 1, 2)\n(0, \"a\",  1)\n",
+    b"des (0, 1, 2)\n(00, \"a\", 1)\n",
+    b"des (0, 1, 2)\n(0, \"a\", 01)\n",
+    b"des (0, 1, 2)\n(0, \"a\", 10000)\n",
+    b"des (0, 1, 2)\n(0, \"a\", 1).\n",
+    b"des (0, 1, 2)\n(0, \"a\", 1)\r\n",
+    b"des (0, 1, 2)\n(2, \"a\", 1)\n",
+    b"des (0, 1, 2)\n(0, \"a\", 2)\n",
+    b"des (0, 1, 2)\n(9999, \"i\", 0)\n",
+    b"des (0, 2, 2)\n(0, \"a\", 1)\n(1, \"a\", 9)\n",
+    b"des (0, 1, 256)\n(255, \"a\", 256)\n",
+    b"des (0, 1, 256)\n(255, \"a\", 255)\n",
 ];
 
 // Transition files with bytes that are not text.
@@ -137,35 +137,35 @@ const MOVE_LABELS: &[&str] = &[
 ];
 
 // First lines of a label file.
-const NAMES: &[&str] = &[
-    "",
-    "\n",
-    "0=\"init\" 1=\"deadlock\"",
-    "0=\"init\" 1=\"dead\"\n",
-    "1=\"init\" 2=\"deadlock\"\n",
-    "0=\"deadlock\" 1=\"init\"\n",
-    "0=\"init\"\n",
-    "0=\"init\" 1=\"deadlock\" 2=\"a\" 3=\"a\"\n",
-    "0=\"init\" 1=\"deadlock\" 2=\"init\"\n",
-    "0=\"init\" 1=\"deadlock\" 2=\"true\"\n",
-    "0=\"init\" 1=\"deadlock\" 2=\"i\"\n",
-    "0=\"init\" 1=\"deadlock\" 3=\"a\"\n",
-    "0=\"init\" 1=\"deadlock\" 2=\"a\" 2=\"b\"\n",
-    "0=\"init\" 1=\"deadlock\" 02=\"a\"\n",
-    "0=\"init\"  1=\"deadlock\"\n",
-    "0=\"init\",1=\"deadlock\"\n",
-    "0=\"init\" 1=\"deadlock\" \n",
-    " 0=\"init\" 1=\"deadlock\"\n",
-    "0=\"init\" 1=\"deadlock\"\r\n",
-    "0=init 1=deadlock\n",
-    "0=\"init\" 1=\"deadlock\" 2=\"\"\n",
-    "0=\"init\" 1=\"deadlock\" 2=\"a\n",
-    "0=\"init\" 1=\"deadlock\" 2=\"a;b\"\n",
-    "0=\"init\" 1=\"deadlock\" 2=\"1a\"\n",
-    "0=\"init\" 1=\"deadlock\" 2=\"abcdefghijklmnopqrstuvwxy\"\n",
-    "0=\"init\" 1=\"deadlock\" 2=\"abcdefghijklmnopqrstuvwx\"\n",
-    "0=\"init\" 1=\"deadlock\" 2=\"a:b.c\"\n",
-    "0=\"init\" 1=\"deadlock\"\n",
+const NAMES: &[&[u8]] = &[
+    b"",
+    b"\n",
+    b"0=\"init\" 1=\"deadlock\"",
+    b"0=\"init\" 1=\"dead\"\n",
+    b"1=\"init\" 2=\"deadlock\"\n",
+    b"0=\"deadlock\" 1=\"init\"\n",
+    b"0=\"init\"\n",
+    b"0=\"init\" 1=\"deadlock\" 2=\"a\" 3=\"a\"\n",
+    b"0=\"init\" 1=\"deadlock\" 2=\"init\"\n",
+    b"0=\"init\" 1=\"deadlock\" 2=\"true\"\n",
+    b"0=\"init\" 1=\"deadlock\" 2=\"i\"\n",
+    b"0=\"init\" 1=\"deadlock\" 3=\"a\"\n",
+    b"0=\"init\" 1=\"deadlock\" 2=\"a\" 2=\"b\"\n",
+    b"0=\"init\" 1=\"deadlock\" 02=\"a\"\n",
+    b"0=\"init\"  1=\"deadlock\"\n",
+    b"0=\"init\",1=\"deadlock\"\n",
+    b"0=\"init\" 1=\"deadlock\" \n",
+    b" 0=\"init\" 1=\"deadlock\"\n",
+    b"0=\"init\" 1=\"deadlock\"\r\n",
+    b"0=init 1=deadlock\n",
+    b"0=\"init\" 1=\"deadlock\" 2=\"\"\n",
+    b"0=\"init\" 1=\"deadlock\" 2=\"a\n",
+    b"0=\"init\" 1=\"deadlock\" 2=\"a;b\"\n",
+    b"0=\"init\" 1=\"deadlock\" 2=\"1a\"\n",
+    b"0=\"init\" 1=\"deadlock\" 2=\"abcdefghijklmnopqrstuvwxy\"\n",
+    b"0=\"init\" 1=\"deadlock\" 2=\"abcdefghijklmnopqrstuvwx\"\n",
+    b"0=\"init\" 1=\"deadlock\" 2=\"a:b.c\"\n",
+    b"0=\"init\" 1=\"deadlock\"\n",
 ];
 
 // What follows the first line of a label file.
@@ -208,28 +208,17 @@ const STATES: &[&str] = &[
 ];
 
 // Prints the text and what was said of it.
-fn show(rt: &HostRuntime, text: &str, said: &String) -> io::Result<()> {
-    let text = text_of(rt.alloc(), text.as_bytes())?;
+fn show(rt: &HostRuntime, text: &[u8], said: &String) -> io::Result<()> {
+    let text = text_of(rt.alloc(), text)?;
     println!(rt; "[{text}] {said}")
 }
 
 // Each of the transition files, with lawful labels.
-fn run_transitions(rt: &HostRuntime, title: &str, texts: &[&str]) -> io::Result<()> {
+fn run_transitions(rt: &HostRuntime, title: &str, texts: &[&[u8]]) -> io::Result<()> {
     println!(rt; "{title}")?;
     for text in texts {
-        let said = outcome(rt.alloc(), text, LABELS)?;
+        let said = outcome(rt.alloc(), both(text, LABELS))?;
         show(rt, text, &said)?;
-    }
-    Ok(())
-}
-
-// Each of the transition files that are not text.
-fn run_bytes(rt: &HostRuntime) -> io::Result<()> {
-    println!(rt; "bytes that are not text")?;
-    for bytes in BYTES {
-        let text = text_of(rt.alloc(), bytes)?;
-        let said = outcome_of(rt.alloc(), bytes, LABELS.as_bytes())?;
-        println!(rt; "[{text}] {said}")?;
     }
     Ok(())
 }
@@ -239,8 +228,8 @@ fn run_labels(rt: &HostRuntime) -> io::Result<()> {
     println!(rt; "labels of moves")?;
     for label in MOVE_LABELS {
         let text = labelled(rt.alloc(), label)?;
-        let said = outcome(rt.alloc(), text.as_str(), LABELS)?;
-        show(rt, label, &said)?;
+        let said = outcome(rt.alloc(), both(text.as_bytes(), LABELS))?;
+        show(rt, label.as_bytes(), &said)?;
     }
     Ok(())
 }
@@ -249,7 +238,7 @@ fn run_labels(rt: &HostRuntime) -> io::Result<()> {
 fn run_names(rt: &HostRuntime) -> io::Result<()> {
     println!(rt; "lines of names")?;
     for text in NAMES {
-        let said = outcome(rt.alloc(), MODEL, text)?;
+        let said = outcome(rt.alloc(), both(MODEL, text))?;
         show(rt, text, &said)?;
     }
     Ok(())
@@ -260,8 +249,8 @@ fn run_states(rt: &HostRuntime) -> io::Result<()> {
     println!(rt; "lines of states")?;
     for lines in STATES {
         let text = marked(rt.alloc(), lines)?;
-        let said = outcome(rt.alloc(), MODEL, text.as_str())?;
-        show(rt, lines, &said)?;
+        let said = outcome(rt.alloc(), both(MODEL, text.as_bytes()))?;
+        show(rt, lines.as_bytes(), &said)?;
     }
     Ok(())
 }
@@ -269,7 +258,7 @@ fn run_states(rt: &HostRuntime) -> io::Result<()> {
 pub fn run(rt: &HostRuntime) -> io::Result<()> {
     run_transitions(rt, "first lines", HEADERS)?;
     run_transitions(rt, "moves", MOVES)?;
-    run_bytes(rt)?;
+    run_transitions(rt, "bytes that are not text", BYTES)?;
     run_labels(rt)?;
     run_names(rt)?;
     run_states(rt)

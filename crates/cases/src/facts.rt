@@ -1,73 +1,54 @@
 // All that can be asked of a table, printed.
-use crate::answers::printable;
 use loading::vocabulary::Vocabulary;
 use std::alloc::{AllocError, Global};
+use std::fmt::Write;
 use std::io;
+use systems::sets::has;
 use systems::system::System;
 use tables::table::Table;
-use text::names::Name;
 use text::numbering::Names;
-
-// The text of the name.
-fn name_text(heap: Global, name: &Name) -> Result<String, AllocError> {
-    let mut text = String::new(heap);
-    for i in 0..name.len() {
-        text.push(printable(name.byte(i)))?;
-    }
-    Ok(text)
-}
 
 // The names in the order of their numbers, each behind a space.
 pub fn names_text(heap: Global, names: &Names) -> Result<String, AllocError> {
     let mut text = String::new(heap);
     for name in names.names() {
-        text.push(' ')?;
-        let word = name_text(heap, name)?;
-        text.push_str(word.as_str())?;
+        write!(text, " {name}")?;
     }
     Ok(text)
 }
 
 // Adds a number to the text, and its name where it has one.
-fn add_member(
-    heap: Global,
-    text: &mut String,
-    number: u8,
-    names: &Names,
-) -> Result<(), AllocError> {
-    if !text.is_empty() {
-        text.push_str(", ")?;
+fn add_member(text: &mut String, number: u8, names: &Names) -> Result<(), AllocError> {
+    let gap = if text.is_empty() { "" } else { ", " };
+    match names.get(usize::from(number)) {
+        Some(name) => write!(text, "{gap}{number} {name}"),
+        None => write!(text, "{gap}{number}"),
     }
-    let item = match names.get(usize::from(number)) {
-        Some(name) => {
-            let word = name_text(heap, &name)?;
-            format!(in heap; "{number} {word}")?
-        }
-        None => format!(in heap; "{number}")?,
-    };
-    text.push_str(item.as_str())
+}
+
+// The numbers that pass, in order, each with its name where it has one.
+fn members_text<F: Fn(u8) -> bool>(
+    heap: Global,
+    names: &Names,
+    is_member: F,
+) -> Result<String, AllocError>
+    requires { (test : F) (number : _) → F.pre test number }
+{
+    let mut text = String::new(heap);
+    for number in (0..=255u8).filter(|number| is_member(*number)) {
+        add_member(&mut text, number, names)?;
+    }
+    Ok(text)
 }
 
 // The members of a set.
 pub fn set_text(heap: Global, set: u64, names: &Names) -> Result<String, AllocError> {
-    let mut text = String::new(heap);
-    for number in 0..64u8 {
-        if (set >> number) % 2 == 1 {
-            add_member(heap, &mut text, number, names)?;
-        }
-    }
-    Ok(text)
+    members_text(heap, names, |number| has(set, number))
 }
 
 // The propositions of the state.
 fn held_text(heap: Global, table: &Table<'_>, q: u16, names: &Names) -> Result<String, AllocError> {
-    let mut text = String::new(heap);
-    for number in 0..=255u8 {
-        if table.holds(q, number) {
-            add_member(heap, &mut text, number, names)?;
-        }
-    }
-    Ok(text)
+    members_text(heap, names, |number| table.holds(q, number))
 }
 
 // The events and the target of the move `i` of the state `q`.
@@ -83,7 +64,7 @@ pub fn print_move(
     println!(rt; "  [{events}] to {target}")
 }
 
-// The propositions and the moves of the state `q`.
+// The propositions and the moves of the state `q`; a table is asked for a move by its number.
 pub fn print_state(
     rt: &HostRuntime,
     table: &Table<'_>,
@@ -98,7 +79,7 @@ pub fn print_state(
     Ok(())
 }
 
-// The number of states, the initial one, and each state.
+// The number of states, the initial one, and each state by its number.
 pub fn print_facts(rt: &HostRuntime, table: &Table<'_>, vocabulary: &Vocabulary) -> io::Result<()> {
     let states = table.states();
     let initial = table.initial();

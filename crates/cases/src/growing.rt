@@ -2,23 +2,29 @@
 use crate::bench::Bench;
 use crate::facts::{names_text, set_text};
 use crate::texts::LABELS;
+use files::pair::Files;
 use std::io;
 
-const FIRST: &str = "des (0, 2, 2)\n(0, \"b;a\", 1)\n(1, \"c\", 0)\n";
-
-const FIRST_LABELS: &str = "0=\"init\" 1=\"deadlock\" 2=\"p\" 3=\"q\"\n0: 0 3\n1: 2\n";
-
-const SECOND: &str = "des (1, 3, 3)\n(0, \"c;d\", 1)\n(1, \"i\", 2)\n(2, \"d;b;d\", 0)\n";
-
-const SECOND_LABELS: &str = "0=\"init\" 1=\"deadlock\" 2=\"q\" 3=\"r\" 4=\"p\"\n0: 2 3\n2: 1 2 4\n";
-
-const THIRD: &str = "des (0, 0, 1)\n";
-
-// Names that are nearly the same, and one that is an event and a proposition.
-const FOURTH: &str =
-    "des (0, 1, 1)\n(0, \"abcdefghijklmnopqrstuvwx;abcdefghijklmnopqrstuvwy;a.;a\", 0)\n";
-
-const FOURTH_LABELS: &str = "0=\"init\" 1=\"deadlock\" 2=\"b\" 3=\"pp\"\n0: 1 2 3\n";
+// The files, in the order in which they are loaded. The last have names that are nearly the same, and one that is an event and a
+// proposition.
+const LOADS: &[Files<'static>] = &[
+    Files {
+        transitions: b"des (0, 2, 2)\n(0, \"b;a\", 1)\n(1, \"c\", 0)\n",
+        labels: b"0=\"init\" 1=\"deadlock\" 2=\"p\" 3=\"q\"\n0: 0 3\n1: 2\n",
+    },
+    Files {
+        transitions: b"des (1, 3, 3)\n(0, \"c;d\", 1)\n(1, \"i\", 2)\n(2, \"d;b;d\", 0)\n",
+        labels: b"0=\"init\" 1=\"deadlock\" 2=\"q\" 3=\"r\" 4=\"p\"\n0: 2 3\n2: 1 2 4\n",
+    },
+    Files {
+        transitions: b"des (0, 0, 1)\n",
+        labels: LABELS,
+    },
+    Files {
+        transitions: b"des (0, 1, 1)\n(0, \"abcdefghijklmnopqrstuvwx;abcdefghijklmnopqrstuvwy;a.;a\", 0)\n",
+        labels: b"0=\"init\" 1=\"deadlock\" 2=\"b\" 3=\"pp\"\n0: 1 2 3\n",
+    },
+];
 
 // The names, in the order of their numbers.
 pub fn print_names(rt: &HostRuntime, bench: &Bench) -> io::Result<()> {
@@ -43,14 +49,9 @@ fn print_places(rt: &HostRuntime, bench: &Bench) -> io::Result<()> {
     Ok(())
 }
 
-// Loads the texts, and prints all that there is then.
-fn load_more(
-    rt: &HostRuntime,
-    bench: &mut Bench,
-    transitions: &str,
-    labels: &str,
-) -> io::Result<()> {
-    let done = bench.run(rt.alloc(), transitions.as_bytes(), labels.as_bytes())?;
+// Loads the files, and prints all that there is then.
+fn load_more(rt: &HostRuntime, bench: &mut Bench, files: Files<'_>) -> io::Result<()> {
+    let done = bench.run(rt.alloc(), files)?;
     let said = done.said;
     println!(rt; "{said}")?;
     print_names(rt, bench)?;
@@ -60,8 +61,8 @@ fn load_more(
 pub fn run(rt: &HostRuntime) -> io::Result<()> {
     println!(rt; "one load after the other")?;
     let mut bench = Bench::new(rt.alloc(), 4, 4)?;
-    load_more(rt, &mut bench, FIRST, FIRST_LABELS)?;
-    load_more(rt, &mut bench, SECOND, SECOND_LABELS)?;
-    load_more(rt, &mut bench, THIRD, LABELS)?;
-    load_more(rt, &mut bench, FOURTH, FOURTH_LABELS)
+    for files in LOADS {
+        load_more(rt, &mut bench, *files)?;
+    }
+    Ok(())
 }

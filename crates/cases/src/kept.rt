@@ -1,109 +1,102 @@
 // Loads into a vocabulary with room for one event and one proposition more: what is refused changes nothing.
 use crate::bench::Bench;
-use crate::texts::{LABELS, events, loops, names, padded};
+use crate::texts::{LABELS, both, events, loops, names, padded};
+use files::pair::Files;
 use std::io;
+use systems::limits::MAX_EVENTS;
+use text::numbering::NAMES_LIMIT;
 
 // One state, and one event that is new.
-const ONE_EVENT: &str = "des (0, 1, 1)\n(0, \"x\", 0)\n";
+const ONE_EVENT: &[u8] = b"des (0, 1, 1)\n(0, \"x\", 0)\n";
 
-const TWO_EVENTS: &str = "des (0, 2, 1)\n(0, \"x\", 0)\n(0, \"y\", 0)\n";
+const TWO_EVENTS: &[u8] = b"des (0, 2, 1)\n(0, \"x\", 0)\n(0, \"y\", 0)\n";
 
 // One state more than there are places.
-const THREE_STATES: &str = "des (0, 1, 3)\n(0, \"x\", 1)\n";
+const THREE_STATES: &[u8] = b"des (0, 1, 3)\n(0, \"x\", 1)\n";
 
 // One proposition that is new.
-const ONE_NAME: &str = "0=\"init\" 1=\"deadlock\" 2=\"x\"\n0: 2\n";
+const ONE_NAME: &[u8] = b"0=\"init\" 1=\"deadlock\" 2=\"x\"\n0: 2\n";
 
-const TWO_NAMES: &str = "0=\"init\" 1=\"deadlock\" 2=\"x\" 3=\"y\"\n0: 2 3\n";
+const TWO_NAMES: &[u8] = b"0=\"init\" 1=\"deadlock\" 2=\"x\" 3=\"y\"\n0: 2 3\n";
 
-struct Attempt {
-    transitions: &'static str,
-    labels: &'static str,
-}
-
-const ATTEMPTS: &[Attempt] = &[
-    Attempt {
-        transitions: "des(0, 0, 1)\n",
+const ATTEMPTS: &[Files<'static>] = &[
+    Files {
+        transitions: b"des(0, 0, 1)\n",
         labels: ONE_NAME,
     },
-    Attempt {
-        transitions: "des (1, 0, 1)\n",
+    Files {
+        transitions: b"des (1, 0, 1)\n",
         labels: ONE_NAME,
     },
-    Attempt {
-        transitions: "des (0, 1, 1)\n(0, \"x\", 0)\n(0, \"y\", 0)\n",
+    Files {
+        transitions: b"des (0, 1, 1)\n(0, \"x\", 0)\n(0, \"y\", 0)\n",
         labels: ONE_NAME,
     },
-    Attempt {
-        transitions: "des (0, 2, 1)\n(0, \"x\", 0)\n(0, \"x;or\", 0)\n",
+    Files {
+        transitions: b"des (0, 2, 1)\n(0, \"x\", 0)\n(0, \"x;or\", 0)\n",
         labels: ONE_NAME,
     },
-    Attempt {
-        transitions: "des (0, 2, 1)\n(0, \"x\", 0)\n(0, \"x\", 1)\n",
+    Files {
+        transitions: b"des (0, 2, 1)\n(0, \"x\", 0)\n(0, \"x\", 1)\n",
         labels: ONE_NAME,
     },
-    Attempt {
+    Files {
         transitions: TWO_EVENTS,
         labels: ONE_NAME,
     },
-    Attempt {
+    Files {
         transitions: TWO_EVENTS,
-        labels: "",
+        labels: b"",
     },
-    Attempt {
+    Files {
         transitions: ONE_EVENT,
-        labels: "0=\"init\" 1=\"dead\"\n",
+        labels: b"0=\"init\" 1=\"dead\"\n",
     },
-    Attempt {
+    Files {
         transitions: ONE_EVENT,
-        labels: "0=\"init\" 1=\"deadlock\" 2=\"x\"\n0: 2\n0: 0\n",
+        labels: b"0=\"init\" 1=\"deadlock\" 2=\"x\"\n0: 2\n0: 0\n",
     },
-    Attempt {
+    Files {
         transitions: ONE_EVENT,
-        labels: "0=\"init\" 1=\"deadlock\" 2=\"x\" 3=\"y\"\n0: 4\n",
+        labels: b"0=\"init\" 1=\"deadlock\" 2=\"x\" 3=\"y\"\n0: 4\n",
     },
-    Attempt {
+    Files {
         transitions: THREE_STATES,
-        labels: "0=\"init\" 1=\"deadlock\" 2=\"x\"\n3: 0\n",
+        labels: b"0=\"init\" 1=\"deadlock\" 2=\"x\"\n3: 0\n",
     },
-    Attempt {
+    Files {
         transitions: ONE_EVENT,
         labels: TWO_NAMES,
     },
-    Attempt {
+    Files {
         transitions: THREE_STATES,
         labels: TWO_NAMES,
     },
-    Attempt {
+    Files {
         transitions: THREE_STATES,
         labels: ONE_NAME,
     },
-    Attempt {
+    Files {
         transitions: ONE_EVENT,
         labels: ONE_NAME,
     },
-    Attempt {
+    Files {
         transitions: ONE_EVENT,
         labels: ONE_NAME,
     },
-    Attempt {
-        transitions: "des (0, 1, 1)\n(0, \"y\", 0)\n",
+    Files {
+        transitions: b"des (0, 1, 1)\n(0, \"y\", 0)\n",
         labels: ONE_NAME,
     },
-    Attempt {
+    Files {
         transitions: ONE_EVENT,
-        labels: "0=\"init\" 1=\"deadlock\" 2=\"y\"\n0: 2\n",
+        labels: b"0=\"init\" 1=\"deadlock\" 2=\"y\"\n0: 2\n",
     },
 ];
 
-// Loads the texts, and prints what is said and whether anything changed.
-fn try_load(
-    rt: &HostRuntime,
-    bench: &mut Bench,
-    transitions: &str,
-    labels: &str,
-) -> io::Result<()> {
-    let done = bench.run(rt.alloc(), transitions.as_bytes(), labels.as_bytes())?;
+// Loads the files, and prints what is said and whether anything changed.
+fn try_load(rt: &HostRuntime, bench: &mut Bench, files: Files<'_>) -> io::Result<()> {
+    let done = bench.run(rt.alloc(), files)?;
     let said = done.said;
     let after = if done.kept {
         "nothing changed"
@@ -120,22 +113,27 @@ fn run_long(rt: &HostRuntime, bench: &mut Bench) -> io::Result<()> {
     let heap = rt.alloc();
     let long = padded(heap, "", 65_536)?;
     let many = loops(heap, 65)?;
-    try_load(rt, bench, long.as_str(), ONE_NAME)?;
-    try_load(rt, bench, ONE_EVENT, long.as_str())?;
-    try_load(rt, bench, TWO_EVENTS, long.as_str())?;
-    try_load(rt, bench, many.as_str(), LABELS)
+    try_load(rt, bench, both(long.as_bytes(), ONE_NAME))?;
+    try_load(rt, bench, both(ONE_EVENT, long.as_bytes()))?;
+    try_load(rt, bench, both(TWO_EVENTS, long.as_bytes()))?;
+    try_load(rt, bench, both(many.as_bytes(), LABELS))
 }
 
 pub fn run(rt: &HostRuntime) -> io::Result<()> {
     println!(rt; "what a refusal leaves")?;
     let heap = rt.alloc();
+    // The 64 records are no limit: they hold the moves of the first load, one for each of 63 events and one for none.
     let mut bench = Bench::new(heap, 64, 2)?;
-    let transitions = events(heap, 0, 63, 0)?;
-    let labels = names(heap, 2, 61)?;
-    try_load(rt, &mut bench, transitions.as_str(), labels.as_str())?;
+    let transitions = events(heap, MAX_EVENTS - 1, 0)?;
+    let labels = names(heap, NAMES_LIMIT - 1)?;
+    try_load(
+        rt,
+        &mut bench,
+        both(transitions.as_bytes(), labels.as_bytes()),
+    )?;
     run_long(rt, &mut bench)?;
-    for a in ATTEMPTS {
-        try_load(rt, &mut bench, a.transitions, a.labels)?;
+    for files in ATTEMPTS {
+        try_load(rt, &mut bench, *files)?;
     }
     Ok(())
 }

@@ -2,7 +2,7 @@
 use Rattle.std.proofs.Common.{◌≡◌, ℕ, zero, suc, ◌<◌, ◌≤◌, Bool, true, false, cond, not, T, sym, refl, ap, ◌∙◌, subst, inr, le_refl, arith}
 use Rattle.std.proofs.lemmas.Bool.{le-ltb}
 use Rattle.systems.specs.Meaning.{Meaning, Lawful}
-use Rattle.logic.specs.declared.nodes.Guard.{Guard}
+use Rattle.logic.specs.Guards.{Guard}
 use Rattle.logic.specs.declared.nodes.Kind.{Kind}
 use Rattle.logic.specs.declared.nodes.Node.{Node}
 use Rattle.logic.specs.Unfolding.{Agree}

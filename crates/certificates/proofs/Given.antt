@@ -2,7 +2,7 @@
 use Rattle.std.proofs.Common.{◌≡◌, ℕ, ◌<◌, Bool, true, false, cond, T, ltb, ◌∙◌, subst}
 use Rattle.std.proofs.lemmas.Bool.{lt-ltb}
 use Rattle.systems.specs.Meaning.{Meaning, Lawful}
-use Rattle.logic.specs.declared.nodes.Guard.{Guard}
+use Rattle.logic.specs.Guards.{Guard}
 use Rattle.logic.specs.declared.nodes.Node.{Node}
 use Rattle.logic.specs.Unfolding.{Agree}
 use Rattle.logic.specs.Holding.{choose, Part}

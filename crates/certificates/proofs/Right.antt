@@ -2,7 +2,7 @@
 use Rattle.std.proofs.Common.{◌≡◌, ℕ, zero, suc, ◌<◌, Bool, true, false, cond, T, ◌↔◌, sym, refl, ap, ◌∙◌, subst, arith}
 use Rattle.std.proofs.lemmas.Bool.{lt-ltb, true≢false, false≢true}
 use Rattle.systems.specs.Meaning.{Meaning, Lawful}
-use Rattle.logic.specs.declared.nodes.Guard.{Guard}
+use Rattle.logic.specs.Guards.{Guard}
 use Rattle.logic.specs.declared.nodes.Node.{Node}
 use Rattle.logic.specs.Unfolding.{Agree}
 use Rattle.logic.specs.Holding.{Assignment, Holds}

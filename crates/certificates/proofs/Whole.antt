@@ -2,7 +2,7 @@
 use Rattle.std.proofs.Common.{◌≡◌, ℕ, ◌<◌, Bool, true, false, sym, refl, ap, subst, arith}
 use Rattle.std.proofs.lemmas.Bool.{lt-ltb}
 use Rattle.systems.specs.Meaning.{Meaning}
-use Rattle.logic.specs.declared.nodes.Guard.{Guard}
+use Rattle.logic.specs.Guards.{Guard}
 use Rattle.logic.specs.declared.nodes.Node.{Node}
 use Rattle.logic.specs.Holding.{Manner, direct, bound, fixed, binds, choose}
 use Rattle.logic.specs.Laid.{under, form}

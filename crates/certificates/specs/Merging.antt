@@ -1,7 +1,7 @@
 -- The rounds of a binder, and how their claims merge. Assumes nothing.
 use Rattle.std.specs.Prelude.{◌≡◌, ℕ, zero, suc, ◌<◌, ◌≤◌, Bool, cond, not, ◌==◌, ◌≢◌}
 use Rattle.systems.specs.Meaning.{Meaning, Lawful}
-use Rattle.logic.specs.declared.nodes.Guard.{Guard}
+use Rattle.logic.specs.Guards.{Guard}
 use Rattle.logic.specs.declared.nodes.Node.{Node}
 use Rattle.logic.specs.Laid.{under, IsBinder, side_of, body_of, form, Laid}
 use Rattle.certificates.specs.declared.claim.Claim.{Claim}

@@ -1,7 +1,7 @@
 -- Support of the claims of some nodes, where the sets of the binders from a number on are given. Assumes nothing.
 use Rattle.std.specs.Prelude.{◌≡◌, ℕ, ◌<◌, Bool, ◌↔◌, nat_lt}
 use Rattle.systems.specs.Meaning.{Meaning}
-use Rattle.logic.specs.declared.nodes.Guard.{Guard}
+use Rattle.logic.specs.Guards.{Guard}
 use Rattle.logic.specs.declared.nodes.Kind.{Kind}
 use Rattle.logic.specs.declared.nodes.Node.{Node}
 use Rattle.logic.specs.Unfolding.{Agree, unfolds}

@@ -1,7 +1,7 @@
 -- What a certificate is worth of which every claim is supported. Assumes nothing.
 use Rattle.std.specs.Prelude.{◌≡◌, ℕ, suc, ◌<◌, Bool, true, false, T, ◌↔◌, List}
 use Rattle.systems.specs.Meaning.{Meaning, Lawful}
-use Rattle.logic.specs.declared.nodes.Guard.{Guard}
+use Rattle.logic.specs.Guards.{Guard}
 use Rattle.logic.specs.declared.nodes.Node.{Node}
 use Rattle.logic.specs.Holding.{Holds}
 use Rattle.logic.specs.Laid.{IsBinder, form, Laid}

@@ -1,7 +1,7 @@
 -- When a claim is supported by other claims. Assumes nothing.
 use Rattle.std.specs.Prelude.{◌≡◌, ℕ, suc, ◌<◌, Bool, true, false, not}
 use Rattle.systems.specs.Meaning.{Meaning}
-use Rattle.logic.specs.declared.nodes.Guard.{Guard}
+use Rattle.logic.specs.Guards.{Guard}
 use Rattle.logic.specs.declared.nodes.Node.{Node}
 use Rattle.logic.specs.Unfolding.{unfolds}
 use Rattle.logic.specs.Holding.{Manner, direct, bound, fixed, binds}

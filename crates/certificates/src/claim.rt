@@ -6,7 +6,7 @@ pub const RANKS: usize = MAX_DEPTH + 1;
 
 // What a certificate says of one node in one state: that it holds there (the claim's side is yes) or that it fails there (no), and
 // how early that comes about.
-#[derive(Clone, Copy)]
+#[derive(Clone, Copy, Debug, PartialEq, Eq)]
 pub struct Claim {
     pub holds: bool,
     pub ranks: [u16; RANKS],

@@ -6,7 +6,7 @@ ghost use Rattle.classes.specs.Bytes.{class_rule};
 ghost use Rattle.classes.specs.Table.{keeps_rule};
 
 // What a byte is to a reader of text.
-#[derive(Clone, Copy)]
+#[derive(Clone, Copy, Debug, PartialEq, Eq)]
 pub enum Class {
     Letter,
     Digit,
@@ -26,7 +26,8 @@ pub enum Class {
     Other,
 }
 
-// The class of each byte, at the byte's place. A static, which is read in place; a const would be copied by each reader.
+// The class of each byte, at the byte's place: one constant table, as the project wants it, whose rule is tested over all of it at once.
+// A static, which is read in place; a const would be copied by each reader.
 static CLASSES: [Class; 256] = [
     // 0 to 15
     Class::Other,
@@ -307,7 +308,7 @@ fn entry(table: &[Class; 256], b: u8) -> Class
     requires { T (keeps_rule table.now) }
     ensures { result ≡ class_rule b }
 {
-    table[b as usize]
+    table[usize::from(b)]
 }
 
 // The class of the byte.

@@ -1,4 +1,3 @@
 pub mod Pieces
 pub mod Folds
-pub mod Accepting
 pub mod Marking

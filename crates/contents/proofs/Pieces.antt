@@ -1,44 +1,44 @@
 -- The pieces of a label one by one, and their names. Assumes nothing.
-use Rattle.std.proofs.Common.{◌≡◌, ℕ, suc, ◌+◌, ◌-◌, ◌<◌, ◌≤◌, Bool, true, false, cond, eqb, leb, List, [], ◌∷◌, ◌++◌, length, take, drop, set, Some, None, codes, Option, sym, refl, ap, ◌∙◌, ⊎_elim, arith, length-drop, length-set, take_all, drop-drop, le-leb}
+use Rattle.std.proofs.Common.{◌≡◌, ℕ, suc, ◌+◌, ◌<◌, ◌≤◌, Bool, true, false, cond, ◌&&◌, eqb, leb, List, [], ◌∷◌, ◌++◌, length, get_or, take, drop, Some, None, codes, Option, sym, refl, ap, ◌∙◌, arith, length-append, le-leb}
 use borrow.Author.Tests.{lt-leb}
-use Rattle.std.proofs.lemmas.Bool.{cases_lt}
-use Rattle.std.proofs.lemmas.List.{append_assoc, take_more_set}
-use Rattle.layouts.specs.Pieces.{before}
-use Rattle.layouts.proofs.Matching.{before_short}
+use lib.Pointwise.{pointwise}
+use Rattle.std.proofs.lemmas.List.{append_assoc, drop_more, take-append-drop}
+use Rattle.std.specs.List.{slice_split, onto_first}
 use Rattle.text.specs.Words.{same}
 use Rattle.text.specs.Names.{named}
 use Rattle.text.specs.declared.names.Name.{Name}
 use Rattle.contents.specs.Labels.{label_limit, on_first, pieces, before_all, with_name, all_named, label_names}
 
--- the first piece ends before a byte b, or it is all
-pub piece_ends : (b : ℕ) (xs : List ℕ) → before b xs < length xs → pieces b xs ≡ take (before b xs) xs ∷ pieces b (drop (suc (before b xs)) xs)
-piece_ends b [] h = absurd (omega arith)
-piece_ends b (x ∷ xs) h = go (eqb x b) refl h (piece_ends b xs)
-  where
-    go : (t : Bool) → eqb x b ≡ t → cond t 0 (suc (before b xs)) < suc (length xs) → (before b xs < length xs → pieces b xs ≡ take (before b xs) xs ∷ pieces b (drop (suc (before b xs)) xs)) →
-        pieces b (x ∷ xs) ≡ take (before b (x ∷ xs)) (x ∷ xs) ∷ pieces b (drop (suc (before b (x ∷ xs))) (x ∷ xs))
-    go true e l ih = (λ j. cond (e j) ([] ∷ pieces b xs) (on_first x (pieces b xs))) ∙ (λ j. take (cond (sym e j) 0 (suc (before b xs))) (x ∷ xs) ∷ pieces b (drop (suc (cond (sym e j) 0 (suc (before b xs)))) (x ∷ xs)))
-    go false e l ih = (λ j. cond (e j) ([] ∷ pieces b xs) (on_first x (pieces b xs))) ∙ ap (on_first x) (ih (omega arith)) ∙ (λ j. take (cond (sym e j) 0 (suc (before b xs))) (x ∷ xs) ∷ pieces b (drop (suc (cond (sym e j) 0 (suc (before b xs)))) (x ∷ xs)))
+-- the library's comparison of bytes, and the parts that it cuts
+same_is : (a b : List ℕ) → pointwise eqb a b ≡ same a b
+same_is [] [] = refl
+same_is [] (y ∷ ys) = refl
+same_is (x ∷ xs) [] = refl
+same_is (x ∷ xs) (y ∷ ys) = ap (λ t. eqb x y && t) (same_is xs ys)
 
-pub piece_last : (b : ℕ) (xs : List ℕ) → before b xs ≡ length xs → pieces b xs ≡ xs ∷ []
-piece_last b [] h = refl
-piece_last b (x ∷ xs) h = go (eqb x b) refl h (piece_last b xs)
-  where
-    go : (t : Bool) → eqb x b ≡ t → cond t 0 (suc (before b xs)) ≡ suc (length xs) → (before b xs ≡ length xs → pieces b xs ≡ xs ∷ []) → pieces b (x ∷ xs) ≡ (x ∷ xs) ∷ []
-    go true e l ih = absurd (omega arith)
-    go false e l ih = ap (λ t. cond t ([] ∷ pieces b xs) (on_first x (pieces b xs))) e ∙ ap (on_first x) (ih (omega arith))
+pub not_i : (s t : List ℕ) → t ≡ codes "i" → false ≡ pointwise eqb s t → same s (codes "i") ≡ false
+not_i s t e h = sym (same_is s (codes "i")) ∙ ap (pointwise eqb s) (sym e) ∙ sym h
 
-first_some : (x : ℕ) (ps : List (List ℕ)) → 0 < length (on_first x ps)
-first_some x [] = omega arith
-first_some x (p ∷ ps) = omega arith
+first_is : (x : ℕ) (ps : List (List ℕ)) → onto_first x ps ≡ on_first x ps
+first_is x [] = refl
+first_is x (p ∷ ps) = refl
 
-pub pieces_some : (b : ℕ) (xs : List ℕ) → 0 < length (pieces b xs)
-pieces_some b [] = omega arith
-pieces_some b (x ∷ xs) = go (eqb x b)
-  where
-    go : (t : Bool) → 0 < length (cond t ([] ∷ pieces b xs) (on_first x (pieces b xs)))
-    go true = omega arith
-    go false = first_some x (pieces b xs)
+pieces_are : (b : ℕ) (xs : List ℕ) → slice_split (λ x. eqb x b) xs ≡ pieces b xs
+pieces_are b [] = refl
+pieces_are b (x ∷ xs) = (λ j. cond (eqb x b) ([] ∷ pieces_are b xs j) (onto_first x (pieces_are b xs j))) ∙ ap (λ ps. cond (eqb x b) ([] ∷ pieces b xs) ps) (first_is x (pieces b xs))
+
+-- pieces, one of them, and the rest
+cut_at : (all ys : List (List ℕ)) (k : ℕ) (p : List ℕ) → ys ≡ take k all → k < length all → p ≡ get_or all k p → all ≡ ys ++ p ∷ drop (k + 1) all
+cut_at all ys k p e h q = sym (take-append-drop k all) ∙ (λ j. sym e j ++ drop_more all k p h j) ∙ ap (λ x. ys ++ x ∷ drop (k + 1) all) (sym q)
+
+-- the names of some pieces before those of others
+abbrev both : Option (List Name) → Option (List Name) → Option (List Name)
+both None o = None
+both (Some ns) o = before_all ns o
+
+both_none : (o : Option (List Name)) → both o None ≡ None
+both_none None = refl
+both_none (Some ns) = refl
 
 before_all_assoc : {X : Type 0} (xs ys : List X) (o : Option (List X)) → before_all xs (before_all ys o) ≡ before_all (xs ++ ys) o
 before_all_assoc xs ys None = refl
@@ -48,86 +48,69 @@ before_none : {X : Type 0} (o : Option (List X)) → before_all [] o ≡ o
 before_none None = refl
 before_none (Some ys) = refl
 
--- some names were read, up to the place `at` of the label
-pub record Sofar (s : List ℕ) (at count : ℕ) (names : List Name) : Type 0 where
-  pub inside : at ≤ length s
-  pub whole : length names ≡ label_limit
-  pub sizes : length (pieces 59 s) ≡ count + length (pieces 59 (drop at s))
-  pub told : all_named (pieces 59 s) ≡ before_all (take count names) (all_named (pieces 59 (drop at s)))
+all_named_append : (ps qs : List (List ℕ)) → all_named (ps ++ qs) ≡ both (all_named ps) (all_named qs)
+all_named_append [] qs = sym (before_none (all_named qs))
+all_named_append (p ∷ ps) qs = ap (with_name (named p)) (all_named_append ps qs) ∙ go (named p) (all_named ps)
+  where
+    go : (n : Option Name) (o : Option (List Name)) → with_name n (both o (all_named qs)) ≡ both (with_name n o) (all_named qs)
+    go None o = refl
+    go (Some n) None = refl
+    go (Some n) (Some ns) = before_all_assoc (n ∷ []) ns (all_named qs)
 
-pub begin : (s : List ℕ) (names : List Name) → length names ≡ label_limit → Sofar s 0 0 names
-begin s names h = record { inside = omega arith; whole = h; sizes = omega arith; told = sym (before_none (all_named (pieces 59 s))) }
+module _ (ps : List (List ℕ)) (p : List ℕ) where
+  pub named_more : (ns : List Name) (n : Name) → all_named ps ≡ Some ns → Some n ≡ named p → all_named (ps ++ p ∷ []) ≡ Some (ns ++ n ∷ [])
+  named_more ns n e h = all_named_append ps (p ∷ []) ∙ (λ j. both (e j) (with_name (sym h j) (Some [])))
 
--- one piece more: its end, the piece as it is cut from the label, and its name
-module _ (s : List ℕ) (at count : ℕ) (names : List Name) (f : Sofar s at count names) (end : ℕ) (here : end ≡ at + before 59 (drop at s)) where
-  pub end_inside : end ≤ length s
-  end_inside = omega (arith, before_short 59 (drop at s), length-drop at s, f.inside)
+  named_none : (rest : List (List ℕ)) → None ≡ named p → all_named (ps ++ p ∷ rest) ≡ None
+  named_none rest h = all_named_append ps (p ∷ rest) ∙ ap (λ o. both (all_named ps) (with_name o (all_named rest))) (sym h) ∙ both_none (all_named ps)
 
-  abbrev cut : List ℕ
-  cut = take (end - at) (drop at s)
+pub named_length : (ps : List (List ℕ)) (ns : List Name) → all_named ps ≡ Some ns → length ns ≡ length ps
+named_length [] ns e = let h : [] ≡ ns = cc in sym (ap length h)
+named_length (p ∷ ps) ns e = go (named p) (all_named ps) (named_length ps) e
+  where
+    go : (n : Option Name) (o : Option (List Name)) → ((ms : List Name) → o ≡ Some ms → length ms ≡ length ps) → with_name n o ≡ Some ns → length ns ≡ suc (length ps)
+    go None o q h = absurd (let z : ◌≡◌ {A = ℕ} 0 1 = cc in omega arith)
+    go (Some n) None q h = absurd (let z : ◌≡◌ {A = ℕ} 0 1 = cc in omega arith)
+    go (Some n) (Some ms) q h = let all : n ∷ ms ≡ ns = cc in omega (arith, ap length all, q ms refl)
 
-  size : end - at ≡ before 59 (drop at s)
-  size = omega arith
-
-  piece_is : cut ≡ take (before 59 (drop at s)) (drop at s)
-  piece_is = ap (λ n. take n (drop at s)) size
-
-  more_pieces : end < length s → pieces 59 (drop at s) ≡ cut ∷ pieces 59 (drop (end + 1) s)
-  more_pieces h =
-      let on : at + suc (before 59 (drop at s)) ≡ end + 1 = omega arith in
-      piece_ends 59 (drop at s) (omega (arith, length-drop at s)) ∙
-      (λ j. sym piece_is j ∷ pieces 59 ((drop-drop (suc (before 59 (drop at s))) at s ∙ ap (λ k. drop k s) on) j))
-
-  last_piece : end ≡ length s → pieces 59 (drop at s) ≡ cut ∷ []
-  last_piece h =
-      let all : before 59 (drop at s) ≡ length (drop at s) = omega (arith, length-drop at s, f.inside) in
-      piece_last 59 (drop at s) all ∙ ap (λ p. p ∷ []) (sym (piece_is ∙ take_all (before 59 (drop at s)) (drop at s) (omega arith)))
-
-  -- what the whole is where the piece has no name, a name and no piece follows, a name and others follow
-  pub no_name : named cut ≡ None → all_named (pieces 59 s) ≡ None
-  no_name e = ⊎_elim
-      (λ lt. f.told ∙ ap (before_all (take count names)) (ap all_named (more_pieces lt) ∙ ap (λ o. with_name o (all_named (pieces 59 (drop (end + 1) s)))) e))
-      (λ le. f.told ∙ ap (before_all (take count names)) (ap all_named (last_piece (omega (arith, end_inside))) ∙ ap (λ o. with_name o (Some [])) e))
-      (cases_lt end (length s))
-
-  module _ (n : Name) (e : named cut ≡ Some n) (room : count < length names) where
-    pub last_name : end ≡ length s → all_named (pieces 59 s) ≡ Some (take (count + 1) (set names count n))
-    last_name h =
-        f.told ∙ ap (before_all (take count names)) (ap all_named (last_piece h) ∙ ap (λ o. with_name o (Some [])) e) ∙
-        ap Some (sym (take_more_set names count n room))
-
-    pub last_size : end ≡ length s → length (pieces 59 s) ≡ count + 1
-    last_size h = f.sizes ∙ ap (λ ps. count + length ps) (last_piece h)
-
-    pub step : (end ≡ length s → ⊥) → Sofar s (end + 1) (count + 1) (set names count n)
-    step ne =
-        let lt : end < length s = omega (arith, end_inside) in
-        record {
-          inside = omega arith;
-          whole = length-set names count n ∙ f.whole;
-          sizes = f.sizes ∙ ap (λ ps. count + length ps) (more_pieces lt) ∙ (omega arith);
-          told = f.told ∙ ap (before_all (take count names)) (ap all_named (more_pieces lt) ∙ ap (λ o. with_name o (all_named (pieces 59 (drop (end + 1) s)))) e) ∙
-              before_all_assoc (take count names) (n ∷ []) (all_named (pieces 59 (drop (end + 1) s))) ∙
-              ap (λ ns. before_all ns (all_named (pieces 59 (drop (end + 1) s)))) (sym (take_more_set names count n room));
-        }
+-- more pieces than a label may have
+named_long : (ps rest : List (List ℕ)) (p : List ℕ) (ns : List Name) → all_named ps ≡ Some ns → label_limit ≤ length ns → label_limit < length (ps ++ p ∷ rest)
+named_long ps rest p ns e h = omega (arith, named_length ps ns e, length-append ps (p ∷ rest))
 
 -- what label_names says in each case
 module _ (l : List ℕ) where
-  pub label_none : same l (codes "i") ≡ true → label_names l ≡ Some []
-  label_none e = ap (λ b. cond b (Some []) (cond (leb (length (pieces 59 l)) label_limit) (all_named (pieces 59 l)) None)) e
-
   listing : same l (codes "i") ≡ false → label_names l ≡ cond (leb (length (pieces 59 l)) label_limit) (all_named (pieces 59 l)) None
   listing e = ap (λ b. cond b (Some []) (cond (leb (length (pieces 59 l)) label_limit) (all_named (pieces 59 l)) None)) e
 
-  pub label_bad : same l (codes "i") ≡ false → all_named (pieces 59 l) ≡ None → label_names l ≡ None
+  label_bad : same l (codes "i") ≡ false → all_named (pieces 59 l) ≡ None → label_names l ≡ None
   label_bad e h = listing e ∙ go (leb (length (pieces 59 l)) label_limit)
     where
       go : (b : Bool) → cond b (all_named (pieces 59 l)) None ≡ None
       go true = h
       go false = refl
 
-  pub label_long : same l (codes "i") ≡ false → label_limit < length (pieces 59 l) → label_names l ≡ None
+  label_long : same l (codes "i") ≡ false → label_limit < length (pieces 59 l) → label_names l ≡ None
   label_long e h = listing e ∙ ap (λ b. cond b (all_named (pieces 59 l)) None) (lt-leb (length (pieces 59 l)) label_limit h)
 
-  pub label_good : same l (codes "i") ≡ false → length (pieces 59 l) ≤ label_limit → label_names l ≡ all_named (pieces 59 l)
+  label_good : same l (codes "i") ≡ false → length (pieces 59 l) ≤ label_limit → label_names l ≡ all_named (pieces 59 l)
   label_good e h = listing e ∙ ap (λ b. cond b (all_named (pieces 59 l)) None) (le-leb (length (pieces 59 l)) label_limit h)
+
+-- a label whose pieces were read one by one, as far as each has a name
+module _ (l : List ℕ) (no : same l (codes "i") ≡ false) (ys : List (List ℕ)) (ns : List Name) (e : all_named ys ≡ Some ns) where
+  abbrev cut : List (List ℕ)
+  cut = slice_split (λ b. eqb b 59) l
+
+  pub all_read : ys ≡ cut → length ns ≤ label_limit → label_names l ≡ Some ns
+  all_read h few =
+      let all : ys ≡ pieces 59 l = h ∙ pieces_are 59 l in
+      label_good l no (omega (arith, few, named_length ys ns e, ap length all)) ∙ ap all_named (sym all) ∙ e
+
+  module _ (p : List ℕ) (so_far : ys ≡ take (length ys) cut) (more : length ys < length cut) (next : p ≡ get_or cut (length ys) p) where
+    split : pieces 59 l ≡ ys ++ p ∷ drop (length ys + 1) cut
+    split = sym (pieces_are 59 l) ∙ cut_at cut ys (length ys) p so_far more next
+
+    pub piece_unlawful : None ≡ named p → label_names l ≡ None
+    piece_unlawful h = label_bad l no (ap all_named split ∙ named_none ys p (drop (length ys + 1) cut) h)
+
+    pub piece_too_many : label_limit ≤ length ns → label_names l ≡ None
+    piece_too_many h = label_long l no (omega (arith, named_long ys (drop (length ys + 1) cut) p ns e h, ap length split))

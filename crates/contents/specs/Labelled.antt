@@ -1,7 +1,7 @@
 -- The names that a label was read as. Assumes nothing.
-use Rattle.std.specs.Prelude.{List, take}
+use Rattle.std.specs.Prelude.{List}
 use Rattle.text.specs.declared.names.Name.{Name}
 use Rattle.contents.specs.declared.label.Label.{Label}
 
 abbrev pub labelled : Label → List Name
-labelled l = take l.count l.names
+labelled l = l.names

@@ -1,7 +1,8 @@
 // The names in the label of a transition.
-ghost use Rattle.std.specs.Prelude.{◌≡◌, ◌≤◌, length};
+ghost use Rattle.std.specs.Prelude.{◌≤◌, length};
 ghost use Rattle.contents.specs.Labels.{label_limit};
 
+use lists::FixedList;
 use text::names::Name;
 
 pub mod reading;
@@ -10,10 +11,8 @@ pub mod reading;
 pub const LABEL_LIMIT: usize = 8;
 
 // The names of a label, in order; none for the label `i`.
-#[derive(Clone, Copy)]
+#[derive(Clone, Copy, Debug, PartialEq, Eq)]
 pub struct Label {
-    names: [Name; LABEL_LIMIT],
-    count: usize,
-    ghost whole: { length names ≡ label_limit },
-    ghost within: { count ≤ label_limit },
+    names: FixedList<Name, LABEL_LIMIT>,
+    ghost within: { length names ≤ label_limit },
 }

@@ -1,48 +1,36 @@
 // A line of labels: a state, and the numbers listed for it.
-ghost use Rattle.std.specs.Prelude.{◌≡◌};
-ghost use Rattle.std.specs.Option.{option_map};
+ghost use Rattle.std.specs.Prelude.{◌≡◌, Some};
 ghost use Rattle.contents.specs.MarksLine.{add_mark, marked_of};
 
 use layouts::fault::LineFault;
 use layouts::labels::{read_listed, read_state};
 
 // What has been listed so far: the least number that may come next, and the set of what the numbers stand for.
-#[derive(Clone, Copy)]
+#[derive(Clone, Copy, Debug, PartialEq, Eq)]
 pub struct Listing {
     pub least: usize,
     pub set: u64,
 }
 
 // A state, and the set of what its numbers stand for, where they rise and each stands for something.
-#[derive(Clone, Copy)]
+#[derive(Clone, Copy, Debug, PartialEq, Eq)]
 pub struct Marked {
     pub state: u16,
     pub set: Option<u64>,
 }
 
 // One number more.
-fn add_mark(masks: &[u64], listing: Option<Listing>, number: u16) -> Option<Listing>
-    ensures { result ≡ add_mark masks.now listing number }
+fn add_mark(masks: &[u64], listing: Listing, number: u16) -> Option<Listing>
+    ensures { result ≡ add_mark masks.now (Some listing) number }
 {
-    let listing = listing?;
-    let place = number as usize;
-    if place < listing.least || place >= masks.len() {
+    let place = usize::from(number);
+    if place < listing.least {
         return None;
     }
-    Some(Listing {
+    masks.get(place).map(|mask| Listing {
         least: place + 1,
-        set: listing.set | masks[place],
+        set: listing.set | *mask,
     })
-}
-
-// The set, where there is one.
-fn set_of(listing: Option<Listing>) -> Option<u64>
-    ensures { result ≡ option_map (λ l. l.set) listing }
-{
-    match listing {
-        Some(listing) => Some(listing.set),
-        None => None,
-    }
 }
 
 // Reads the whole line. A number k listed in it stands for what is in `masks` at k.
@@ -51,20 +39,15 @@ pub fn read_marks(line: &[u8], masks: &[u64]) -> Result<Marked, LineFault>
 {
     let state = read_state(line)?;
     let mut listing = Some(Listing { least: 0, set: 0 });
-    let mut at = state.after;
-    // Each number takes at least one byte, so that many turns suffice.
-    for turn in 0..line.len() + 1 {
+    let mut next = Some(state.after);
+    // Where a number starts is known from the one before it, so there is nothing to go over by items.
+    while let Some(at) = next {
         let listed = read_listed(line, at)?;
-        listing = add_mark(masks, listing, listed.number);
-        match listed.next {
-            Some(next) => at = next,
-            None => {
-                return Ok(Marked {
-                    state: state.value,
-                    set: set_of(listing),
-                });
-            }
-        }
+        listing = listing.and_then(|listing| add_mark(masks, listing, listed.number));
+        next = listed.next;
     }
-    Err(LineFault::Other { at })
+    Ok(Marked {
+        state: state.value,
+        set: listing.map(|listing| listing.set),
+    })
 }

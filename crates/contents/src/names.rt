@@ -14,7 +14,7 @@ use text::numbering::Names;
 fn is_next(names: &Names, number: u16) -> bool
     ensures { result ≡ (number == length (held names.now)) }
 {
-    number as usize == names.len()
+    usize::from(number) == names.len()
 }
 
 // Whether the name is among the names.
@@ -37,11 +37,8 @@ fn accept(found: Option<Names>, item: NameItem<'_>) -> Option<Names>
         return None;
     }
     let mut longer = names;
-    if longer.join_all(&[name]) {
-        Some(longer)
-    } else {
-        None
-    }
+    longer.join_all(&[name]).ok()?;
+    Some(longer)
 }
 
 // Reads the whole line; the names are there where each entry is lawful.
@@ -49,27 +46,24 @@ pub fn read_names(line: &[u8]) -> Result<Option<Names>, LineFault>
     ensures { seen_names result ≡ names_of line.now }
 {
     let mut found = Some(Names::new());
-    let mut at = 0;
-    // Each entry takes at least one byte, so that many turns suffice.
-    for turn in 0..line.len() + 1 {
+    let mut next = Some(0);
+    // Where an entry starts is known from the one before it, so there is nothing to go over by items.
+    while let Some(at) = next {
         let item = read_item(line, at)?;
         found = accept(found, item);
-        match item.next {
-            Some(next) => at = next,
-            None => return Ok(found),
-        }
+        next = item.next;
     }
-    Err(LineFault::Other { at })
+    Ok(found)
 }
 
 // Whether the name with the number is the word.
 fn is_called(names: &Names, number: usize, word: &[u8]) -> bool
     ensures { result ≡ is_called (held names.now) number word.now }
 {
-    match (names.get(number), Name::new(word)) {
-        (Some(name), Some(wanted)) => name.same(&wanted),
-        _ => false,
-    }
+    names
+        .get(number)
+        .zip(Name::new(word))
+        .is_some_and(|(name, wanted)| name == wanted)
 }
 
 // Whether the names begin with `init` and `deadlock`.

@@ -4,8 +4,7 @@ use Rattle.text.specs.Numbering.{number_of}
 use Rattle.text.specs.Names.{same_name}
 use Rattle.text.specs.Lookup.{latest}
 use Rattle.text.specs.declared.names.Name.{Name}
-use Rattle.logic.specs.declared.nodes.Guard.{Guard}
-use Rattle.logic.specs.declared.nodes.Guard.TheVariants.{Any}
+use Rattle.logic.specs.Guards.{Guard}
 use Rattle.logic.specs.declared.nodes.Kind.{Kind}
 use Rattle.logic.specs.declared.nodes.Kind.TheVariants as kind
 use Rattle.logic.specs.declared.nodes.Node.{Node}
@@ -94,26 +93,26 @@ emit_leaf propositions (named n) frames s d =
 
 -- the event formulas of an operator, in the order in which they are written
 abbrev pub unary_guard : List Name → Unary Name → EntriesRead → Guard × EntriesRead
-unary_guard events negation v = (Any, v)
+unary_guard events negation v = (None, v)
 unary_guard events (diamond g) v = emit_guard events g v
 unary_guard events (box_all g) v = emit_guard events g v
 unary_guard events (all_next g) v = emit_guard events g v
-unary_guard events eventually v = (Any, v)
-unary_guard events always v = (Any, v)
+unary_guard events eventually v = (None, v)
+unary_guard events always v = (None, v)
 
 abbrev pub first_guard : List Name → Binary Name → EntriesRead → Guard × EntriesRead
-first_guard events conjunction v = (Any, v)
-first_guard events disjunction v = (Any, v)
+first_guard events conjunction v = (None, v)
+first_guard events disjunction v = (None, v)
 first_guard events (exists_until g) v = emit_guard events g v
 first_guard events (all_until g) v = emit_guard events g v
 first_guard events (exists_until_by g h) v = emit_guard events g v
 first_guard events (all_until_by g h) v = emit_guard events g v
 
 abbrev pub second_guard : List Name → Binary Name → EntriesRead → Guard × EntriesRead
-second_guard events conjunction v = (Any, v)
-second_guard events disjunction v = (Any, v)
-second_guard events (exists_until g) v = (Any, v)
-second_guard events (all_until g) v = (Any, v)
+second_guard events conjunction v = (None, v)
+second_guard events disjunction v = (None, v)
+second_guard events (exists_until g) v = (None, v)
+second_guard events (all_until g) v = (None, v)
 second_guard events (exists_until_by g h) v = emit_guard events h v
 second_guard events (all_until_by g h) v = emit_guard events h v
 

@@ -5,8 +5,7 @@ use Rattle.text.specs.Numbering.{number_of}
 use Rattle.text.specs.declared.names.Name.{Name}
 use Rattle.logic.specs.declared.events.EventFormula.{EventFormula}
 use Rattle.logic.specs.declared.events.EventFormula.TheVariants as entry
-use Rattle.logic.specs.declared.nodes.Guard.{Guard}
-use Rattle.logic.specs.declared.nodes.Guard.TheVariants.{Any, By}
+use Rattle.logic.specs.Guards.{Guard}
 use Rattle.logic.specs.Limits.{max_entries}
 use Rattle.trees.specs.Trees.{top, bottom, tau, event, not_event, both_events, either_events}
 use Rattle.grammar.specs.Grammar.{WrittenEvents}
@@ -76,9 +75,9 @@ drop_last v = record { list = take (length v.list - 1) v.list; written = v.writt
 
 -- the guard that the event formula with the number is: one that is just `true` is as good as none, and its entry goes
 abbrev pub settle_guard : ℕ → EntriesRead → Guard × EntriesRead
-settle_guard k v = (cond (is_true_at v.list k) Any (By k), cond (is_true_at v.list k) (drop_last v) v)
+settle_guard k v = (cond (is_true_at v.list k) None (Some k), cond (is_true_at v.list k) (drop_last v) v)
 
 -- a guard as it is written
 abbrev pub emit_guard : List Name → Option WrittenEvents → EntriesRead → Guard × EntriesRead
-emit_guard names None v = (Any, v)
+emit_guard names None v = (None, v)
 emit_guard names (Some t) v = settle_guard (emit_events names t v).0 (emit_events names t v).1

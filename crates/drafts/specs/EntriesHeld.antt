@@ -1,7 +1,6 @@
 -- The entries that a draft holds. Assumes nothing.
-use Rattle.std.specs.Prelude.{take}
 use Rattle.drafts.specs.Entries.{EntriesRead}
 use Rattle.drafts.specs.declared.entries.EntryDraft.{EntryDraft}
 
 abbrev pub entries_read : EntryDraft → EntriesRead
-entries_read d = record { list = take d.used d.entries; written = d.written; unknown = d.unknown }
+entries_read d = record { list = d.list; written = d.written; unknown = d.unknown }

@@ -4,19 +4,19 @@ ghost use Rattle.logic.specs.Limits.{max_entries};
 
 mod methods;
 
+use lists::FixedList;
 use logic::events::EventFormula;
 use logic::limits::MAX_ENTRIES;
 
-// The first `used` places hold entries. `written` counts all that were written, up to one more than there may be.
-#[derive(Clone, Copy)]
+// The entries so far. `written` counts all that were written, up to one more than there may be: the
+// count alone says that there were too many, which a flag would only say again.
+#[derive(Clone, Copy, Debug, PartialEq, Eq)]
 pub struct EntryDraft {
-    pub entries: [EventFormula; MAX_ENTRIES],
-    pub used: usize,
+    pub list: FixedList<EventFormula, MAX_ENTRIES>,
     pub written: usize,
     // A name of an event was not known.
     pub unknown: bool,
-    ghost whole: { length entries ≡ max_entries },
-    ghost stored: { used ≤ written },
-    ghost within: { used ≤ max_entries },
+    ghost stored: { length list ≤ written },
+    ghost within: { length list ≤ max_entries },
     ghost counted: { written ≤ suc max_entries },
 }

@@ -5,7 +5,7 @@ use text::lookup::Named;
 use text::names::Name;
 
 // A binder: the name that it binds, and its sign, whether an even number of `not` is around it.
-#[derive(Clone, Copy)]
+#[derive(Clone, Copy, Debug, PartialEq, Eq)]
 pub struct Frame {
     pub name: Name,
     pub sign: bool,
@@ -16,6 +16,6 @@ impl Named for Frame {
     ghost called = { λ f. f.name };
 
     fn is_called(&self, name: &Name) -> bool {
-        self.name.same(name)
+        self.name == *name
     }
 }

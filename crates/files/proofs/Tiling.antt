@@ -60,13 +60,6 @@ rows_tile file = (tiles 0 file, wholes 0 file, follows 0 file)
 abbrev pub Found : List ℕ → ℕ → Row × ℕ
 Found file at = (record { start = at; text = line_of (drop at file); ended = ltb (end_of file at) (length file) }, end_of file at + cond (ltb (end_of file at) (length file)) 1 0)
 
-pub no_line : (file : List ℕ) (at : ℕ) → None ≡ line_at file at → [] ≡ line_of (drop at file)
-no_line file at = go (ltb at (length file)) refl
-  where
-    go : (b : Bool) → ltb at (length file) ≡ b → None ≡ cond b (Some (Found file at)) None → [] ≡ line_of (drop at file)
-    go true e h = absurd (let z : ◌≡◌ {A = ℕ} 0 1 = cc in omega arith)
-    go false e h = sym (ap line_of (drop_all at file (ltb-false at (length file) e)))
-
 -- the lines from a place on begin with the line there
 ltb_suc : (m n : ℕ) → ltb (suc m) (suc n) ≡ ltb m n
 ltb_suc m n = go (ltb m n) refl

@@ -2,7 +2,8 @@
 use Rattle.std.specs.Prelude.{◌≡◌, ℕ, suc, ◌+◌, Bool, true, false, cond, List, [], ◌∷◌, ◌++◌, length, take, drop, Some, None, Option, ◌==◌, nat_lt}
 use Rattle.std.specs.List.{flat_map, AllByRecursion}
 use Rattle.layouts.specs.Pieces.{before}
-use Rattle.files.specs.declared.lines.Line.{Line}
+use Rattle.files.specs.declared.line.Line.{Line}
+use Rattle.files.specs.declared.lines.Lines.{Lines}
 
 -- a line: the place where it starts, its bytes without the byte 10 that ends it, and whether there is one
 pub record Row : Type 0 where
@@ -61,3 +62,11 @@ RowsTile = (file : List ℕ) → (flat_map printed_row (rows_of file) ≡ file) 
 abbrev pub seen_line : Option Line → Option (Row × ℕ)
 seen_line None = None
 seen_line (Some l) = Some (record { start = l.start; text = l.text.now; ended = l.ended }, l.after)
+
+-- a line that was read, as a row
+abbrev pub row_of : Line → Row
+row_of l = record { start = l.start; text = l.text.now; ended = l.ended }
+
+-- the lines that are still to come
+abbrev pub rows_left : Lines → List Row
+rows_left s = rows_from s.at (drop s.at s.file.now)

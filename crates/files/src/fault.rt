@@ -1,18 +1,19 @@
 // Why a load is refused, and the line that is at fault.
-ghost use Rattle.std.specs.Prelude.{◌≡◌, drop};
-ghost use Rattle.files.specs.Lines.{line_of};
-ghost use Rattle.files.specs.Refusals.{refusal, fault_line};
+ghost use Rattle.std.specs.Prelude.{◌≡◌, Some};
+ghost use Rattle.files.specs.Refusals.{refusal};
+ghost use Rattle.files.specs.Wording.{file_name, complaint};
 
-use crate::lines::line_at;
+use std::error::Error;
+use std::fmt;
 
-#[derive(Clone, Copy)]
+#[derive(Clone, Copy, Debug, PartialEq, Eq)]
 pub enum File {
     Transitions,
     Labels,
 }
 
 // The first question of a load that gets a no. Where a line is at fault, `start` is the byte at which it starts.
-#[derive(Clone, Copy)]
+#[derive(Clone, Copy, Debug, PartialEq, Eq)]
 pub enum Fault {
     TransitionsTooLong,
     HeaderLine { start: usize },
@@ -28,12 +29,35 @@ pub enum Fault {
     TablesTooShort,
 }
 
-impl Fault {
-    // The number of the question.
-    pub fn number(&self) -> u8
-        ensures { result ≡ (refusal self.now).number }
-    {
+// A file goes by the name that it has in its folder.
+impl fmt::Display for File {
+    ghost output = { λ f. Some (file_name f) };
+
+    fn fmt<W: fmt::Write>(&self, f: &mut fmt::Formatter<W>) -> fmt::Result {
         match self {
+            File::Transitions => write!(f, "model.aut"),
+            File::Labels => write!(f, "model.lab"),
+        }
+    }
+}
+
+// A refusal is shown in words.
+impl fmt::Display for Fault {
+    ghost output = { λ f. Some (complaint f) };
+
+    fn fmt<W: fmt::Write>(&self, f: &mut fmt::Formatter<W>) -> fmt::Result {
+        f.write_str(self.complaint())
+    }
+}
+
+impl Error for Fault {}
+
+// The number of the question.
+impl From<Fault> for u8 {
+    ghost from_gives = { λ f n. n ≡ (refusal f).number };
+
+    fn from(fault: Fault) -> u8 {
+        match fault {
             Fault::TransitionsTooLong => 1,
             Fault::HeaderLine { .. } => 2,
             Fault::HeaderNumbers => 3,
@@ -48,40 +72,54 @@ impl Fault {
             Fault::TablesTooShort => 12,
         }
     }
+}
+
+impl Fault {
+    // What is wrong, as a mechanic would say it.
+    fn complaint(&self) -> &'static str
+        ensures { result.now ≡ complaint self.now }
+    {
+        match self {
+            Fault::TransitionsTooLong => "model.aut is longer than 65535 bytes",
+            Fault::HeaderLine { .. } => {
+                "the first line should read: des (INITIAL, TRANSITIONS, STATES)"
+            }
+            Fault::HeaderNumbers => {
+                "model.aut: there should be 1 to 256 states and at most 1024 transitions, and the initial state should be one of the states"
+            }
+            Fault::TransitionLine { .. } => {
+                "here a line should read: (FROM, \"LABEL\", TO), as many of them as the first line says, and nothing after them"
+            }
+            Fault::TransitionLabel { .. } => "the label should be i, or 1 to 8 names joined by ;",
+            Fault::TransitionStates { .. } => {
+                "the transition leaves or reaches a state that the first line does not allow for"
+            }
+            Fault::TooManyEvents => "model.aut: there are more than 64 different events",
+            Fault::LabelsTooLong => "model.lab is longer than 65535 bytes",
+            Fault::NamesLine { .. } => {
+                "the first line should read: 0=\"init\" 1=\"deadlock\" 2=\"NAME\" and so on, with at most 64 names, all different"
+            }
+            Fault::StateLine { .. } => {
+                "here a line should read: STATE: NUMBER NUMBER, with states rising from line to line, and numbers of the first line, rising"
+            }
+            Fault::TooManyPropositions => {
+                "model.lab: there are more than 64 different propositions"
+            }
+            Fault::TablesTooShort => "there is no room for so many transitions or states",
+        }
+    }
 
     // The file and the byte at which the line at fault starts, where a line is at fault.
     pub fn place(&self) -> Option<(File, usize)>
         ensures { result ≡ (refusal self.now).place }
     {
         match self {
-            Fault::HeaderLine { start } => Some((File::Transitions, *start)),
-            Fault::TransitionLine { start } => Some((File::Transitions, *start)),
-            Fault::TransitionLabel { start } => Some((File::Transitions, *start)),
-            Fault::TransitionStates { start } => Some((File::Transitions, *start)),
-            Fault::NamesLine { start } => Some((File::Labels, *start)),
-            Fault::StateLine { start } => Some((File::Labels, *start)),
+            Fault::HeaderLine { start }
+            | Fault::TransitionLine { start }
+            | Fault::TransitionLabel { start }
+            | Fault::TransitionStates { start } => Some((File::Transitions, *start)),
+            Fault::NamesLine { start } | Fault::StateLine { start } => Some((File::Labels, *start)),
             _ => None,
         }
-    }
-}
-
-// The bytes from `start` up to the next byte 10 or the file's end; none past the end.
-fn line_from<'a>(file: &'a [u8], start: usize) -> &'a [u8]
-    ensures { result.now ≡ line_of (drop start file.now) }
-{
-    match line_at(file, start) {
-        Some(line) => line.text,
-        None => &file[0..0],
-    }
-}
-
-// The line at fault, as a part of the file it stands in; empty where the fault has no line or the line is missing.
-pub fn failing_line<'a>(transitions: &'a [u8], labels: &'a [u8], fault: &Fault) -> &'a [u8]
-    ensures { result.now ≡ fault_line (refusal fault.now).place transitions.now labels.now }
-{
-    match fault.place() {
-        Some((File::Transitions, start)) => line_from(transitions, start),
-        Some((File::Labels, start)) => line_from(labels, start),
-        None => &transitions[0..0],
     }
 }

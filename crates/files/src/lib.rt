@@ -2,4 +2,7 @@
 #![tactic(auto)]
 
 pub mod fault;
+pub mod line;
 pub mod lines;
+pub mod pair;
+pub mod shown;

@@ -1,8 +1,7 @@
 -- A formula, by number, and what holds of every formula. Assumes nothing.
-use Rattle.std.specs.Prelude.{◌≡◌, ℕ, ◌-◌, ◌<◌, ◌≤◌, Bool, true, ◌↔◌, List, take}
+use Rattle.std.specs.Prelude.{◌≡◌, ℕ, ◌-◌, ◌<◌, ◌≤◌, Bool, true, ◌↔◌, List, length, Some, None}
 use Rattle.logic.specs.declared.events.EventFormula.{EventFormula}
-use Rattle.logic.specs.declared.nodes.Guard.{Guard}
-use Rattle.logic.specs.declared.nodes.Guard.TheVariants.{Any, By}
+use Rattle.logic.specs.Guards.{Guard}
 use Rattle.logic.specs.declared.nodes.Node.{Node}
 use Rattle.logic.specs.Events.{satisfies}
 use Rattle.logic.specs.Laid.{Laid, Convex}
@@ -15,17 +14,17 @@ use Rattle.formulas.specs.declared.formula.Formula.{Formula}
 
 -- the nodes and entries
 abbrev pub nodes_in : Formula → List Node
-nodes_in f = take f.count f.nodes
+nodes_in f = f.nodes
 
 abbrev pub entries_in : Formula → List EventFormula
-entries_in f = take f.used f.entries
+entries_in f = f.entries
 
 -- how many nodes there are; the root is the last
 abbrev pub node_count : Formula → ℕ
-node_count f = f.count
+node_count f = length f.nodes
 
 abbrev pub root_of : Formula → ℕ
-root_of f = f.count - 1
+root_of f = node_count f - 1
 
 -- the node with a number
 abbrev pub node_in : Formula → ℕ → Node
@@ -33,12 +32,12 @@ node_in f j = node_at (nodes_in f) j
 
 -- the tree of the formula
 abbrev pub tree_of : Formula → Term
-tree_of f = stored_tree f.nodes f.count f.entries f.used
+tree_of f = stored_tree f.nodes f.entries
 
 -- whether moves with these events are meant: a missing event formula means all
 abbrev pub accepted : Formula → Guard → ℕ → Bool
-accepted f Any events = true
-accepted f (By k) events = satisfies (entries_in f) k events
+accepted f None events = true
+accepted f (Some k) events = satisfies (entries_in f) k events
 
 -- how the nodes of a formula lie
 pub record LiesWell (f : Formula) : Type 0 where

@@ -4,3 +4,4 @@ pub mod InterleavedLaw
 pub mod Joining
 pub mod Turns
 pub mod Movers
+pub mod Sides

@@ -2,7 +2,7 @@ ghost use Rattle.std.specs.Prelude.{◌≡◌};
 ghost use Rattle.interleaving.specs.Joining.{number_of};
 
 // Why two systems are not joined.
-#[derive(Clone, Copy)]
+#[derive(Clone, Copy, Debug, PartialEq, Eq)]
 pub enum JoinRefusal {
     // The pair would have more than 256 states.
     TooManyStates,
@@ -10,12 +10,12 @@ pub enum JoinRefusal {
     TooManyMoves,
 }
 
-impl JoinRefusal {
-    // The number under which the refusal is told.
-    pub fn number(self) -> u8
-        ensures { result ≡ number_of self }
-    {
-        match self {
+// The number under which the refusal is told.
+impl From<JoinRefusal> for u8 {
+    ghost from_gives = { λ e n. n ≡ number_of e };
+
+    fn from(refusal: JoinRefusal) -> u8 {
+        match refusal {
             JoinRefusal::TooManyStates => 21,
             JoinRefusal::TooManyMoves => 22,
         }

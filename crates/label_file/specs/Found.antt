@@ -1,8 +1,6 @@
 -- What the reader of the label file gives, and what places hold after a pass. Assumes nothing.
 use Rattle.std.specs.Prelude.{◌≡◌, ℕ, ◌<◌, ◌≤◌, List, length, Ok, Err, Result, slice_index}
-use Rattle.files.specs.Lines.{Row}
 use Rattle.files.specs.declared.fault.Fault.{Fault}
-use Rattle.files.specs.declared.lines.Line.{Line}
 use Rattle.text.specs.Held.{held}
 use Rattle.text.specs.Numbering.{join_all}
 use Rattle.text.specs.declared.names.Name.{Name}
@@ -13,10 +11,6 @@ use Rattle.label_file.specs.declared.reading.LabelsRead.{LabelsRead}
 abbrev pub ReadAs : List ℕ → ℕ → List Name → Result LabelsRead Fault → Type 0
 ReadAs file n known (Ok t) = (label_part file n known ≡ Ok (held t.names)) × (held t.propositions ≡ join_all known (held t.names))
 ReadAs file n known (Err fault) = label_part file n known ≡ Err fault
-
--- the line that was read, as a row
-abbrev pub row_of : Line → Row
-row_of l = record { start = l.start; text = l.text.now; ended = l.ended }
 
 -- places below n hold what f makes of them, and the others stay
 pub record Changed (f : ℕ → ℕ → ℕ) (n : ℕ) (before after : List ℕ) : Type 0 where

@@ -1,5 +1,4 @@
 // The questions of the label file, in order.
-ghost use Rattle.std.specs.Prelude.{◌≡◌};
 ghost use Rattle.text.specs.Held.{held};
 ghost use Rattle.label_file.specs.Found.{ReadAs};
 
@@ -7,11 +6,10 @@ use crate::first::first_names;
 use crate::scans::mislabelled_line;
 use files::fault::Fault;
 use text::numbering::{NAMES_LIMIT, Names};
-use transition_file::first::body_start;
 use transition_file::reading::is_short;
 
 // The names that the file lists, and the names of propositions with those of the file behind them.
-#[derive(Clone, Copy)]
+#[derive(Clone, Copy, Debug, PartialEq, Eq)]
 pub struct LabelsRead {
     pub names: Names,
     pub propositions: Names,
@@ -24,22 +22,18 @@ pub fn read_labels(file: &[u8], states: u16, known: &Names) -> Result<LabelsRead
     if !is_short(file) {
         return Err(Fault::LabelsTooLong);
     }
-    let Some(names) = first_names(file) else {
-        return Err(Fault::NamesLine { start: 0 });
-    };
-    let from = body_start(file);
-    // What the numbers stand for does not matter yet.
+    let names = first_names(file).ok_or(Fault::NamesLine { start: 0 })?;
+    // What the numbers stand for does not matter yet, only how many there are; a function in place of the array would take a clause of its own.
     let blank = [0; NAMES_LIMIT];
-    if let Some(start) = mislabelled_line(file, from, states, &blank[0..names.len()]) {
+    if let Some(start) = mislabelled_line(file, states, &blank[..names.len()]) {
         return Err(Fault::StateLine { start });
     }
     let mut propositions = *known;
-    if propositions.join_all(names.names()) {
-        Ok(LabelsRead {
-            names,
-            propositions,
-        })
-    } else {
-        Err(Fault::TooManyPropositions)
-    }
+    propositions
+        .join_all(names.names())
+        .map_err(|_| Fault::TooManyPropositions)?;
+    Ok(LabelsRead {
+        names,
+        propositions,
+    })
 }

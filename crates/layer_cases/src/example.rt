@@ -1,5 +1,5 @@
 // The example beside itself, and behind sheets of rules.
-use crate::told::{load_texts, records, sets, tell};
+use crate::told::{Loaded, tell};
 use abstraction::abstraction::Abstraction;
 use abstraction::sheet::Sheet;
 use interleaving::interleaving::Interleaving;
@@ -13,16 +13,11 @@ const TRANSITIONS: &[u8] =
 const LABELS: &[u8] = b"0=\"init\" 1=\"deadlock\" 2=\"cold\" 3=\"reading\"\n0: 0 2\n2: 3\n3: 1\n";
 
 // Prints two systems side by side, or the refusal.
-fn tell_both<'x, A: System, B: System>(
-    rt: &HostRuntime,
-    title: &str,
-    a: &'x A,
-    b: &'x B,
-) -> io::Result<()> {
+fn tell_both<A: System, B: System>(rt: &HostRuntime, title: &str, a: &A, b: &B) -> io::Result<()> {
     match Interleaving::new(a, b) {
         Ok(both) => tell(rt, title, &both),
         Err(e) => {
-            let number = e.number();
+            let number = u8::from(e);
             println!(rt; "{title}: {number}")
         }
     }
@@ -33,18 +28,18 @@ fn add(rt: &HostRuntime, sheet: &mut Sheet, seen: u8, shown: u8) -> io::Result<(
     match sheet.add(seen, shown) {
         Ok(()) => println!(rt; "rule {seen} {shown}: added"),
         Err(e) => {
-            let number = e.number();
+            let number = u8::from(e);
             println!(rt; "rule {seen} {shown}: {number}")
         }
     }
 }
 
 // Two systems side by side, behind a sheet.
-fn tell_behind<'x, A: System, B: System>(
+fn tell_behind<A: System, B: System>(
     rt: &HostRuntime,
     title: &str,
-    a: &'x A,
-    b: &'x B,
+    a: &A,
+    b: &B,
     sheet: Sheet,
 ) -> io::Result<()> {
     match Interleaving::new(a, b) {
@@ -53,8 +48,10 @@ fn tell_behind<'x, A: System, B: System>(
     }
 }
 
-fn tell_table<'x>(rt: &HostRuntime, table: &'x Table<'x>) -> io::Result<()> {
+// The example alone, beside itself, and behind sheets.
+fn tell_table(rt: &HostRuntime, table: &Table<'_>) -> io::Result<()> {
     tell(rt, "example", table)?;
+    // A second borrow: one reference for two parameters, each with references inside, is not covered by the borrow checker.
     tell_both(rt, "example beside itself", table, &*table)?;
     let blind = Sheet::new();
     tell(
@@ -68,30 +65,20 @@ fn tell_table<'x>(rt: &HostRuntime, table: &'x Table<'x>) -> io::Result<()> {
     add(rt, &mut sheet, 2, 0)?;
     add(rt, &mut sheet, 64, 0)?;
     add(rt, &mut sheet, 0, 64)?;
+    // A copy first: a sheet by value, once more after it was handed on, is not covered by the borrow checker.
+    let outer = sheet;
     let inner = Abstraction::new(table, sheet);
     tell(rt, "example behind a sheet", &inner)?;
     tell_behind(
         rt,
         "a sheet over a sheet beside the example",
         &inner,
-        &*table,
-        sheet,
+        table,
+        outer,
     )
 }
 
-fn told<'x>(
-    rt: &HostRuntime,
-    shape: loading::shape::Shape,
-    records: &'x [systems::transition::Transition],
-    sets: &'x [u64],
-) -> io::Result<()> {
-    let table = Table::new(shape, records, sets);
-    tell_table(rt, &table)
-}
-
 pub(crate) fn run(rt: &HostRuntime) -> io::Result<()> {
-    let mut records = records(rt.alloc())?;
-    let mut sets = sets(rt.alloc())?;
-    let shape = load_texts(TRANSITIONS, LABELS, &mut records, &mut sets)?;
-    told(rt, shape, &records, &sets)
+    let loaded = Loaded::new(rt.alloc(), TRANSITIONS, LABELS)?;
+    tell_table(rt, &loaded.table())
 }

@@ -1,48 +1,56 @@
 // Loads tables, and prints what systems tell.
+use files::pair::Files;
 use loading::shape::{Shape, load};
 use loading::vocabulary::Vocabulary;
 use std::alloc::{AllocError, Global};
+use std::fmt::Write;
 use std::io;
+use systems::limits::{MAX_MOVES, MAX_STATES};
 use systems::system::System;
 use systems::transition::Transition;
+use tables::table::Table;
 
-const NOWHERE: Transition = Transition {
-    source: 0,
-    events: 0,
-    target: 0,
-};
-
-// Places for records, as many as a file can fill.
-pub(crate) fn records(heap: Global) -> Result<Vec<Transition>, AllocError> {
-    vec![in heap; NOWHERE; 1024]
+// A shape, and the records and sets that a load filled for it.
+#[derive(Drop)]
+pub(crate) struct Loaded {
+    shape: Shape,
+    records: Vec<Transition>,
+    sets: Vec<u64>,
 }
 
-// Places for proposition sets, as many as a file can fill.
-pub(crate) fn sets(heap: Global) -> Result<Vec<u64>, AllocError> {
-    vec![in heap; 0; 256]
-}
+impl Loaded {
+    // Loads two texts into a vocabulary and places of their own, as many as a file can fill; a text that is refused here is a mistake.
+    pub(crate) fn new(heap: Global, transitions: &[u8], labels: &[u8]) -> io::Result<Loaded> {
+        let files = Files {
+            transitions,
+            labels,
+        };
+        let mut vocabulary = Vocabulary::new();
+        let mut records = vec![in heap; Transition::default(); MAX_MOVES]?;
+        let mut sets = vec![in heap; 0; MAX_STATES]?;
+        let shape = load(files, &mut vocabulary, &mut records, &mut sets).map_err(
+            |_| io::Error::from(io::ErrorKind::InvalidData),
+        )?;
+        Ok(Loaded {
+            shape,
+            records,
+            sets,
+        })
+    }
 
-// Loads two texts into a vocabulary of their own; a text that is refused here is a mistake.
-pub(crate) fn load_texts(
-    transitions: &[u8],
-    labels: &[u8],
-    records: &mut [Transition],
-    sets: &mut [u64],
-) -> io::Result<Shape> {
-    let mut vocabulary = Vocabulary::new();
-    match load(transitions, labels, &mut vocabulary, records, sets) {
-        Ok(shape) => Ok(shape),
-        Err(_) => Err(io::Error::from(io::ErrorKind::InvalidData)),
+    // The table over them.
+    pub(crate) fn table(&self) -> Table<'_> {
+        Table::new(self.shape, &self.records, &self.sets)
     }
 }
 
-// The moves of a state, each as its set of events and its target.
+// The moves of a state, each as its set of events and its target; a system is asked for them by number, so the loop counts.
 fn moves_text<S: System>(heap: Global, s: &S, q: u16) -> Result<String, AllocError> {
     let mut text = String::new(heap);
     for i in 0..s.move_count(q) {
         let events = s.events(q, i);
         let target = s.target(q, i);
-        text.push_str(format!(in heap; " {events}>{target}")?.as_str())?;
+        write!(text, " {events}>{target}")?;
     }
     Ok(text)
 }
@@ -50,15 +58,13 @@ fn moves_text<S: System>(heap: Global, s: &S, q: u16) -> Result<String, AllocErr
 // The propositions of a state, by number.
 fn propositions_text<S: System>(heap: Global, s: &S, q: u16) -> Result<String, AllocError> {
     let mut text = String::new(heap);
-    for p in 0..=255u8 {
-        if s.holds(q, p) {
-            text.push_str(format!(in heap; " {p}")?.as_str())?;
-        }
+    for p in (0..=255u8).filter(|p| s.holds(q, *p)) {
+        write!(text, " {p}")?;
     }
     Ok(text)
 }
 
-// Prints every fact of a system, and of two states that it does not have.
+// Prints every fact of a system, and of two states that it does not have; states are numbers, so the loop counts.
 pub(crate) fn tell<S: System>(rt: &HostRuntime, title: &str, s: &S) -> io::Result<()> {
     let heap = rt.alloc();
     let states = s.states();
@@ -69,7 +75,7 @@ pub(crate) fn tell<S: System>(rt: &HostRuntime, title: &str, s: &S) -> io::Resul
         let moves = moves_text(heap, s, q)?;
         println!(rt; "  {q}:{holds} |{moves}")?;
     }
-    let events = s.events(0, 1024);
-    let target = s.target(0, 1024);
+    let events = s.events(0, MAX_MOVES);
+    let target = s.target(0, MAX_MOVES);
     println!(rt; "  a missing move: {events}>{target}")
 }

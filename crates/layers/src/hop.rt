@@ -1,10 +1,10 @@
 ghost use Rattle.layers.specs.Hops.{hop, hop_lawful};
 
-use systems::limits::MAX_PROPOSITIONS;
+use systems::sets::has;
 use systems::system::System;
 
 // Two states and one move, from 0 to 1, where the proposition 0 holds.
-#[derive(Clone, Copy)]
+#[derive(Clone, Copy, Debug, PartialEq, Eq)]
 pub struct Hop {
     pub events: u64,
 }
@@ -23,7 +23,7 @@ impl System for Hop {
     }
 
     fn move_count(&self, q: u16) -> usize {
-        if q == 0 { 1 } else { 0 }
+        usize::from(q == 0)
     }
 
     fn events(&self, q: u16, i: usize) -> u64 {
@@ -31,11 +31,10 @@ impl System for Hop {
     }
 
     fn target(&self, q: u16, i: usize) -> u16 {
-        if q == 0 && i == 0 { 1 } else { 0 }
+        u16::from(q == 0 && i == 0)
     }
 
     fn holds(&self, q: u16, p: u8) -> bool {
-        let set: u64 = if q == 1 { 1 } else { 0 };
-        p < MAX_PROPOSITIONS && (set >> p) % 2 == 1
+        has(u64::from(q == 1), p)
     }
 }

@@ -1,12 +1,13 @@
 -- A run of digits, digit by digit, and its numeral. Assumes nothing.
-use Rattle.std.proofs.Common.{◌≡◌, ℕ, zero, suc, ◌+◌, ◌-◌, ◌*◌, ◌/◌, ◌%◌, ◌^◌, ◌<◌, ◌≤◌, Bool, true, false, cond, ◌&&◌, eqb, ltb, leb, List, [], ◌∷◌, ◌++◌, map, length, drop, is_some, Some, None, Ok, Err, Option, Result, unwrap_or, sym, refl, ap, ◌∙◌, subst, ⊎_elim, zero-lt-suc, pow-suc, arith, length-drop, drop-drop, eq-eqb, ne_eqb, le-leb}
-use native.Mathlib.Nat.{pow-le-pow_right}
+use Rattle.std.specs.List.{take_while, prefix_len}
+use Rattle.std.proofs.lemmas.List.Folds.{length-prefix_len}
+use Rattle.std.proofs.Common.{take, ◌≡◌, ℕ, zero, suc, ◌+◌, ◌-◌, ◌*◌, ◌/◌, ◌%◌, ◌<◌, ◌≤◌, Bool, true, false, cond, ◌&&◌, eqb, ltb, leb, List, [], ◌∷◌, ◌++◌, map, length, drop, is_some, Some, None, Ok, Err, Option, Result, unwrap_or, sym, refl, ap, ◌∙◌, subst, ⊎_elim, arith, drop-drop, eq-eqb, ne_eqb, le-leb}
 use lib.ListN.{length-map}
 use Rattle.std.proofs.lemmas.Bool.{cond-true, cond-false, lt-ltb, le-ltb, ltb-false, cases_lt, and_parts, leb-true}
 use Rattle.std.specs.List.{AllByRecursion}
 use Rattle.layouts.specs.declared.number.Number.{Number}
 use Rattle.layouts.specs.declared.fault.NumberFault.{NumberFault}
-use Rattle.layouts.specs.Numbers.{digit_worth, front_worth, digits, worth, zero_leads, number_at, code, numeral, Stands, Numerals}
+use Rattle.layouts.specs.Numbers.{digit_worth, front_worth, is_digit, digits, worth, zero_leads, number_at, code, numeral, Stands, Numerals}
 
 -- a digit is 48 more than its worth, which is below 10
 pub from_worth : (b d : ℕ) → digit_worth b ≡ Some d → (b ≡ 48 + d) × (d < 10)
@@ -27,92 +28,22 @@ to_worth d h =
     let back : (48 + d) - 48 ≡ d = omega arith in
     (λ i. cond (low i && high i) (Some (back i)) None)
 
--- one digit more at the front, and none
-module _ (xs : List ℕ) (d : ℕ) where
-  pub some_inside : front_worth xs ≡ Some d → 0 < length xs
-  some_inside = go xs
-    where
-      go : (ys : List ℕ) → front_worth ys ≡ Some d → 0 < length ys
-      go [] e = absurd (let z : ◌≡◌ {A = ℕ} 0 1 = cc in omega arith)
-      go (b ∷ bs) e = omega arith
+-- what the library counts
+pub digits_is : (xs : List ℕ) → length (take_while is_digit xs) ≡ digits xs
+digits_is xs = length-prefix_len is_digit xs ∙ counted xs
+  where
+    counted : (ys : List ℕ) → prefix_len is_digit ys ≡ digits ys
+    counted [] = refl
+    counted (b ∷ bs) = let e : 1 + prefix_len is_digit bs ≡ suc (digits bs) = omega (arith, counted bs) in ap (λ n. cond (is_digit b) n 0) e
 
-  pub some_small : front_worth xs ≡ Some d → d < 10
-  some_small = go xs
-    where
-      go : (ys : List ℕ) → front_worth ys ≡ Some d → d < 10
-      go [] e = absurd (let z : ◌≡◌ {A = ℕ} 0 1 = cc in omega arith)
-      go (b ∷ bs) e = (from_worth b d e).1
-
-  pub some_digits : front_worth xs ≡ Some d → digits xs ≡ suc (digits (drop 1 xs))
-  some_digits = go xs
-    where
-      go : (ys : List ℕ) → front_worth ys ≡ Some d → digits ys ≡ suc (digits (drop 1 ys))
-      go [] e = absurd (let z : ◌≡◌ {A = ℕ} 0 1 = cc in omega arith)
-      go (b ∷ bs) e = ap (λ o. cond (is_some o) (suc (digits bs)) 0) e
-
-  pub some_worth : (v : ℕ) → front_worth xs ≡ Some d → worth v xs ≡ worth (v * 10 + d) (drop 1 xs)
-  some_worth v = go xs
-    where
-      go : (ys : List ℕ) → front_worth ys ≡ Some d → worth v ys ≡ worth (v * 10 + d) (drop 1 ys)
-      go [] e = absurd (let z : ◌≡◌ {A = ℕ} 0 1 = cc in omega arith)
-      go (b ∷ bs) e = ap (λ o. cond (is_some o) (worth (v * 10 + unwrap_or o 0) bs) v) e
-
-pub none_digits : (xs : List ℕ) → front_worth xs ≡ None → digits xs ≡ 0
-none_digits [] e = refl
-none_digits (b ∷ bs) e = ap (λ o. cond (is_some o) (suc (digits bs)) 0) e
-
-pub none_worth : (xs : List ℕ) (v : ℕ) → front_worth xs ≡ None → worth v xs ≡ v
-none_worth [] v e = refl
-none_worth (b ∷ bs) v e = ap (λ o. cond (is_some o) (worth (v * 10 + unwrap_or o 0) bs) v) e
-
--- a run that has come from the place i to the place k, with the worth v
-pub record Sofar (s : List ℕ) (i k v : ℕ) : Type 0 where
-  pub onward : i < k
-  pub few : k - i ≤ 4
-  pub inside : k ≤ length s
-  pub small : v < 10 ^ (k - i)
-  pub count : i + digits (drop i s) ≡ k + digits (drop k s)
-  pub value : worth 0 (drop i s) ≡ worth v (drop k s)
-
-next : (s : List ℕ) (k : ℕ) → drop 1 (drop k s) ≡ drop (k + 1) s
-next s k = drop-drop 1 k s
-
-grown : (n v d : ℕ) → v < 10 ^ n → d < 10 → v * 10 + d < 10 ^ (suc n)
-grown n v d h l = subst (λ q. v * 10 + d < q) (sym (pow-suc 10 n)) (omega arith)
-
-pub room : (n v d : ℕ) → n < 4 → v < 10 ^ n → d < 10 → v * 10 + d < 10000
-room n v d f h l =
-    let le : suc n ≤ 4 = omega arith in
-    let up : 10 ^ (suc n) ≤ 10 ^ 4 = pow-le-pow_right (zero-lt-suc 9) le in
-    omega (arith, grown n v d h l)
-
-module _ (s : List ℕ) (i d : ℕ) (e : front_worth (drop i s) ≡ Some d) where
-  pub within : i < length s
-  within = omega (arith, some_inside (drop i s) d e, length-drop i s)
-
-  pub begin : Sofar s i (i + 1) d
-  begin = record {
-    onward = omega arith;
-    few = omega arith;
-    inside = omega (arith, within);
-    small = let n : (i + 1) - i ≡ 1 = omega arith in subst (λ q. d < 10 ^ q) (sym n) (some_small (drop i s) d e);
-    count = omega (arith, some_digits (drop i s) d e, ap digits (next s i));
-    value = some_worth (drop i s) d 0 e ∙ ap (worth (0 * 10 + d)) (next s i) ∙ (let z : 0 * 10 + d ≡ d = omega arith in ap (λ v. worth v (drop (i + 1) s)) z);
-  }
-
-module _ (s : List ℕ) (i k v d : ℕ) (f : Sofar s i k v) (e : front_worth (drop k s) ≡ Some d) where
-  pub step : (k - i ≡ 4 → ⊥) → Sofar s i (k + 1) (v * 10 + d)
-  step more = record {
-    onward = omega (arith, f.onward);
-    few = omega (arith, f.few, f.onward);
-    inside = omega (arith, within s k d e);
-    small = let n : suc (k - i) ≡ (k + 1) - i = omega (arith, f.onward) in subst (λ q. v * 10 + d < 10 ^ q) n (grown (k - i) v d f.small (some_small (drop k s) d e));
-    count = omega (arith, f.count, some_digits (drop k s) d e, ap digits (next s k));
-    value = f.value ∙ some_worth (drop k s) d v e ∙ ap (worth (v * 10 + d)) (next s k);
-  }
-
-  pub fifth : k - i ≡ 4 → 4 < digits (drop i s)
-  fifth four = omega (arith, f.count, some_digits (drop k s) d e, f.onward)
+-- what stands behind the digits is not read
+pub worth_cut : (xs : List ℕ) (v : ℕ) → worth v (take (digits xs) xs) ≡ worth v xs
+worth_cut [] v = refl
+worth_cut (b ∷ bs) v = go (is_digit b) refl (worth_cut bs)
+  where
+    go : (t : Bool) → is_digit b ≡ t → ((u : ℕ) → worth u (take (digits bs) bs) ≡ worth u bs) → worth v (take (cond t (suc (digits bs)) 0) (b ∷ bs)) ≡ cond t (worth (v * 10 + unwrap_or (digit_worth b) 0) bs) v
+    go true e ih = ap (λ t. cond t (worth (v * 10 + unwrap_or (digit_worth b) 0) (take (digits bs) bs)) v) e ∙ ih (v * 10 + unwrap_or (digit_worth b) 0)
+    go false e ih = refl
 
 -- what number_at says in each case
 abbrev Given : List ℕ → ℕ → Bool → Bool → Bool → Result Number NumberFault
@@ -124,9 +55,6 @@ Given s i none led long =
 
 is : (s : List ℕ) (i : ℕ) (a b c : Bool) → eqb (digits (drop i s)) 0 ≡ a → zero_leads (drop i s) ≡ b → ltb 4 (digits (drop i s)) ≡ c → number_at s i ≡ Given s i a b c
 is s i a b c p q r = λ j. Given s i (p j) (q j) (r j)
-
-pub number_none : (s : List ℕ) (i : ℕ) → front_worth (drop i s) ≡ None → number_at s i ≡ Err (record { at = i })
-number_none s i e = ap (λ b. Given s i b (zero_leads (drop i s)) (ltb 4 (digits (drop i s)))) (eq-eqb _ 0 (none_digits (drop i s) e))
 
 -- whether a zero leads is told by the first digit and the next
 pub leads_none : (xs : List ℕ) (d : ℕ) → front_worth xs ≡ Some d → (d ≡ 0 → ⊥) → zero_leads xs ≡ false
@@ -146,38 +74,8 @@ module _ (s : List ℕ) (i : ℕ) (some : 0 < digits (drop i s)) where
   first : eqb (digits (drop i s)) 0 ≡ false
   first = ne_eqb _ 0 (λ e. omega arith)
 
-  pub number_zero : zero_leads (drop i s) ≡ true → number_at s i ≡ Err (record { at = i })
-  number_zero z = is s i false true (ltb 4 (digits (drop i s))) first z refl
-
-  pub number_long : zero_leads (drop i s) ≡ false → 4 < digits (drop i s) → number_at s i ≡ Err (record { at = i + 4 })
-  number_long z h = is s i false false true first z (lt-ltb 4 _ h)
-
   pub number_good : zero_leads (drop i s) ≡ false → digits (drop i s) ≤ 4 → number_at s i ≡ Ok (record { value = worth 0 (drop i s); after = i + digits (drop i s) })
   number_good z h = is s i false false false first z (le-ltb 4 _ h)
-
--- after a first digit, another or none
-some_if : (xs : List ℕ) → is_some (front_worth xs) ≡ true → 0 < digits xs
-some_if [] e = absurd (let z : ◌≡◌ {A = ℕ} 0 1 = cc in omega arith)
-some_if (b ∷ bs) e = let h : digits (b ∷ bs) ≡ suc (digits bs) = ap (λ t. cond t (suc (digits bs)) 0) e in omega arith
-
-none_if : (xs : List ℕ) → is_some (front_worth xs) ≡ false → digits xs ≡ 0
-none_if [] e = refl
-none_if (b ∷ bs) e = ap (λ t. cond t (suc (digits bs)) 0) e
-
-module _ (s : List ℕ) (i d : ℕ) (e : front_worth (drop i s) ≡ Some d) where
-  pub next_some : is_some (front_worth (drop (i + 1) s)) ≡ true → 1 < digits (drop i s)
-  next_some t = omega (arith, some_digits (drop i s) d e, ap digits (next s i), some_if (drop (i + 1) s) t)
-
-  pub next_none : is_some (front_worth (drop (i + 1) s)) ≡ false → digits (drop i s) ≤ 1
-  next_none t = omega (arith, some_digits (drop i s) d e, ap digits (next s i), none_if (drop (i + 1) s) t)
-
-pub number_read : (s : List ℕ) (i k v : ℕ) → Sofar s i k v → zero_leads (drop i s) ≡ false → front_worth (drop k s) ≡ None → Ok (record { value = v; after = k }) ≡ number_at s i
-number_read s i k v f z e =
-    let long : i + digits (drop i s) ≡ k = omega (arith, f.count, none_digits (drop k s) e) in
-    let value : worth 0 (drop i s) ≡ v = f.value ∙ none_worth (drop k s) v e in
-    let some : 0 < digits (drop i s) = omega (arith, long, f.onward) in
-    let few : digits (drop i s) ≤ 4 = omega (arith, long, f.few, f.onward) in
-    (λ j. Ok (record { value = sym value j; after = sym long j })) ∙ sym (number_good s i some z few)
 
 -- digits as numbers below 10, and their value after digits of the value v
 abbrev pub value : ℕ → List ℕ → ℕ

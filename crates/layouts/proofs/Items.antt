@@ -1,5 +1,5 @@
 -- The lines of the label file and their printed forms. Assumes nothing.
-use Rattle.std.proofs.Common.{◌≡◌, ℕ, suc, ◌+◌, ◌<◌, ◌≤◌, Bool, true, false, cond, eqb, List, [], ◌∷◌, ◌++◌, length, drop, Some, None, Ok, codes, Option, sym, refl, ap, ◌∙◌, subst, arith, length-append, length-drop, eq-eqb, ne_eqb, true-eqb}
+use Rattle.std.proofs.Common.{◌≡◌, ℕ, suc, ◌+◌, ◌-◌, ◌<◌, ◌≤◌, Bool, true, false, cond, eqb, List, [], ◌∷◌, ◌++◌, length, drop, Some, None, Ok, codes, Option, sym, refl, ap, ◌∙◌, subst, arith, length-append, length-drop, eq-eqb, ne_eqb, true-eqb}
 use Rattle.std.proofs.lemmas.List.{append_assoc, append-nil, drop_all}
 use Rattle.std.specs.List.{AllByRecursion}
 use Rattle.layouts.specs.declared.fault.LineFault.{LineFault}
@@ -92,6 +92,11 @@ item_more s i x y u w e =
     let d = item_left s i x w (codes " " ++ t) e in
     (j + 1, item_read s i x w (codes " " ++ t) e (Some (j + 1)) (next_some s j t d), piece_left s j (codes " ") t d)
 
+-- fewer bytes follow where the next entry starts
+pub item_onward : (s : List ℕ) (i : ℕ) (x : Item) (j : ℕ) → item_at s i ≡ Ok (x, Some j) → length s - j < length s - i
+item_onward s i x j e =
+    omega (arith, ap length (item_forth s i (x, Some j) e).1, length-append (printed_item x) (codes " " ++ drop j s), item_long x, length-drop i s, length-drop j s)
+
 items_forth : (s : List ℕ) (its : List Item) → items_of s ≡ Ok its → (0 < length its) × AllByRecursion WritableItem its × (s ≡ printed_items its)
 items_forth s its e = parts_forth s (codes " ") printed_item WritableItem (item_at s) (item_forth s) (suc (length s)) 0 its e
 
@@ -122,6 +127,10 @@ listed_forth s i x e0 =
     let text : drop i s ≡ listed n.value ++ rest [] s (onward s n.after) =
     piece_text s i (codes " ") a p1 ∙ ap (λ u. codes " " ++ u) (sn.text ∙ ap (λ u. numeral n.value ++ u) (onward_text s n.after)) in
     subst (λ y. Writable y.0 × (drop i s ≡ listed y.0 ++ rest [] s y.1)) (ok_same {E = LineFault} (n.value, onward s n.after) x e2) (sn.small, text)))
+
+pub listed_onward : (s : List ℕ) (i n j : ℕ) → listed_at s i ≡ Ok (n, Some j) → length s - j < length s - i
+listed_onward s i n j e =
+    omega (arith, ap length (listed_forth s i (n, Some j) e).1, length-append (listed n) (drop j s), length-drop i s, length-drop j s)
 
 listed_read : (s : List ℕ) (i n : ℕ) (t : List ℕ) → Writable n → digits t ≡ 0 → drop i s ≡ listed n ++ t → listed_at s i ≡ Ok (n, onward s ((i + 1) + length (numeral n)))
 listed_read s i n t w done e =

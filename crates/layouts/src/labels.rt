@@ -1,5 +1,5 @@
 // The lines of the label file: `0="init" 1="deadlock" 2="name"`, then `q: i j`.
-ghost use Rattle.std.specs.Prelude.{◌≡◌};
+ghost use Rattle.std.specs.Prelude.{◌≡◌, ◌==◌, if◌then◌else◌, length, Some, None};
 ghost use Rattle.layouts.specs.Layouts.{next_at, item_at, state_at, listed_at, seen_item, seen_listed};
 
 use crate::fault::LineFault;
@@ -7,7 +7,7 @@ use crate::number::{Number, read_number};
 use crate::pieces::{byte_from, read_piece};
 
 // An entry of the line of names, and where the next one starts, if any.
-#[derive(Clone, Copy)]
+#[derive(Clone, Copy, Debug, PartialEq, Eq)]
 pub struct NameItem<'a> {
     pub number: u16,
     pub text: &'a [u8],
@@ -15,21 +15,26 @@ pub struct NameItem<'a> {
 }
 
 // A number listed for a state, and where the next one starts, if any.
-#[derive(Clone, Copy)]
+#[derive(Clone, Copy, Debug, PartialEq, Eq)]
 pub struct ListedNumber {
     pub number: u16,
     pub next: Option<usize>,
+}
+
+// The place `at`, unless the line ends there.
+fn unless_end(line: &[u8], at: usize) -> Option<usize>
+    ensures { result ≡ (if at == length line.now then None else Some at) }
+{
+    (at != line.len()).then_some(at)
 }
 
 // Where the next entry starts: after a space, unless the line ends at `at`.
 fn read_next(line: &[u8], at: usize) -> Result<Option<usize>, LineFault>
     ensures { result ≡ next_at line.now at }
 {
-    if at == line.len() {
-        return Ok(None);
-    }
-    let next = read_piece(line, at, b" ")?;
-    Ok(Some(next))
+    unless_end(line, at)
+        .map(|at| read_piece(line, at, b" "))
+        .transpose()
 }
 
 // Reads `k="text"` at `at`, and the space after it, if any.
@@ -54,10 +59,7 @@ pub fn read_state(line: &[u8]) -> Result<Number, LineFault>
 {
     let state = read_number(line, 0)?;
     let after = read_piece(line, state.after, b":")?;
-    Ok(Number {
-        value: state.value,
-        after,
-    })
+    Ok(Number { after, ..state })
 }
 
 // Reads a space and a number at `at`.
@@ -66,13 +68,8 @@ pub fn read_listed(line: &[u8], at: usize) -> Result<ListedNumber, LineFault>
 {
     let at = read_piece(line, at, b" ")?;
     let number = read_number(line, at)?;
-    let next = if number.after == line.len() {
-        None
-    } else {
-        Some(number.after)
-    };
     Ok(ListedNumber {
         number: number.value,
-        next,
+        next: unless_end(line, number.after),
     })
 }

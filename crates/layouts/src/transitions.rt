@@ -7,7 +7,7 @@ use crate::number::read_number;
 use crate::pieces::{byte_from, read_end, read_piece};
 
 // The first line: any three numbers.
-#[derive(Clone, Copy)]
+#[derive(Clone, Copy, Debug, PartialEq, Eq)]
 pub struct Header {
     pub initial: u16,
     pub transitions: u16,
@@ -15,7 +15,7 @@ pub struct Header {
 }
 
 // A line of a transition: any two numbers and any text between the quote marks.
-#[derive(Clone, Copy)]
+#[derive(Clone, Copy, Debug, PartialEq, Eq)]
 pub struct TransitionLine<'a> {
     pub source: u16,
     pub label: &'a [u8],

@@ -1,21 +1,11 @@
 -- The token that comes next, by what was found there. Assumes nothing.
-use Rattle.std.proofs.Common.{◌≡◌, ℕ, suc, ◌+◌, ◌-◌, ◌<◌, ◌≤◌, Bool, true, false, cond, List, [], ◌∷◌, length, get_or, take, drop, Some, None, Option, sym, ap, ◌∙◌, arith, length-drop}
-use Rattle.std.proofs.lemmas.List.{drop_all, drop_more, at_drop_more, at_drop_all}
+use Rattle.std.proofs.Common.{◌≡◌, ℕ, suc, ◌+◌, ◌-◌, ◌<◌, ◌≤◌, Bool, true, false, cond, List, [], ◌∷◌, length, get_or, take, drop, Some, None, Option, sym, refl, ap, ◌∙◌, arith, length-drop}
+use Rattle.std.specs.List.{prefix_len}
+use Rattle.std.proofs.lemmas.List.{drop_all, drop_more}
 use Rattle.std.proofs.lemmas.Bool.{lt-ltb, le-ltb}
 use Rattle.text.specs.Words.{word_limit, is_start, goes_on, word_len}
 use Rattle.lexer.specs.declared.Mark.{Mark}
 use Rattle.lexer.specs.Tokens.{is_blank, mark_of, blanks, end, mark, word, Next, got, refused, word_at, by_mark, front_token, token_at}
-
--- blanks one by one
-module _ (s : List ℕ) (i : ℕ) where
-  pub blank_more : i < length s → is_blank (get_or s i 0) ≡ true → i + blanks (drop i s) ≡ (i + 1) + blanks (drop (i + 1) s)
-  blank_more h e = let n : blanks (drop i s) ≡ suc (blanks (drop (i + 1) s)) = at_drop_more blanks s i 0 h ∙ ap (λ b. cond b (suc (blanks (drop (i + 1) s))) 0) e in omega arith
-
-  pub blank_stop : i < length s → is_blank (get_or s i 0) ≡ false → i ≡ i + blanks (drop i s)
-  blank_stop h e = let n : blanks (drop i s) ≡ 0 = at_drop_more blanks s i 0 h ∙ ap (λ b. cond b (suc (blanks (drop (i + 1) s))) 0) e in omega arith
-
-  pub blank_end : length s ≤ i → i ≡ i + blanks (drop i s)
-  blank_end h = let n : blanks (drop i s) ≡ 0 = at_drop_all blanks s i h in omega arith
 
 -- a word ends within its text
 pub word_short : (xs : List ℕ) → word_len xs ≤ length xs
@@ -62,3 +52,12 @@ module _ (s : List ℕ) (i j : ℕ) (at : j ≡ i + blanks (drop i s)) where
 
 pub word_inside : (s : List ℕ) (j n : ℕ) → j < length s → n ≡ word_len (drop (j + 1) s) → (j + 1) + n ≤ length s
 word_inside s j n h e = omega (arith, word_short (drop (j + 1) s), length-drop (j + 1) s)
+
+-- the blanks at the front are counted one by one
+pub prefix_blanks : (xs : List ℕ) → prefix_len is_blank xs ≡ blanks xs
+prefix_blanks [] = refl
+prefix_blanks (x ∷ xs) = by (is_blank x) (prefix_blanks xs)
+  where
+    by : (b : Bool) → prefix_len is_blank xs ≡ blanks xs → cond b (1 + prefix_len is_blank xs) 0 ≡ cond b (suc (blanks xs)) 0
+    by true e = omega (arith, e)
+    by false e = refl

@@ -7,7 +7,7 @@ ghost use Rattle.lexer.specs.Tokens.{is_blank, mark_of, blanks, token_at, seen_t
 use classes::{Class, class_of};
 use text::words::{WORD_LIMIT, is_start, word_len};
 
-#[derive(Clone, Copy)]
+#[derive(Clone, Copy, Debug, PartialEq, Eq)]
 pub enum Mark {
     OpenRound,
     CloseRound,
@@ -20,8 +20,8 @@ pub enum Mark {
     Colon,
 }
 
-// A word is a part of the text.
-#[derive(Clone, Copy)]
+// A word is a part of the text. The end is a token like the others, with a place, and not the lack of one.
+#[derive(Clone, Copy, Debug, PartialEq, Eq)]
 pub enum Token<'a> {
     End,
     Mark(Mark),
@@ -29,7 +29,7 @@ pub enum Token<'a> {
 }
 
 // A token, the place where it starts, and the place behind it.
-#[derive(Clone, Copy)]
+#[derive(Clone, Copy, Debug, PartialEq, Eq)]
 pub struct Placed<'a> {
     pub token: Token<'a>,
     pub start: usize,
@@ -37,7 +37,7 @@ pub struct Placed<'a> {
 }
 
 // At the place `at` stands neither a mark nor a word: a byte that may not stand there, or a run that is too long.
-#[derive(Clone, Copy)]
+#[derive(Clone, Copy, Debug, PartialEq, Eq)]
 pub struct TokenFault {
     pub at: usize,
 }
@@ -46,13 +46,10 @@ pub struct TokenFault {
 fn is_blank(b: u8) -> bool
     ensures { result ≡ is_blank b }
 {
-    match class_of(b) {
-        Class::Space | Class::LineEnd => true,
-        _ => false,
-    }
+    matches!(class_of(b), Class::Space | Class::LineEnd)
 }
 
-// The mark that the byte is, if any.
+// The mark that the byte is, if any. An Option and no TryFrom: there is nothing to say of a byte that is none.
 fn mark_of(b: u8) -> Option<Mark>
     ensures { result ≡ mark_of b }
 {
@@ -74,14 +71,10 @@ fn mark_of(b: u8) -> Option<Mark>
 fn skip_blanks(text: &[u8], at: usize) -> usize
     ensures { result ≡ at + blanks (drop at text.now) }
 {
-    let mut end = at;
-    while end < text.len() && is_blank(text[end]) {
-        end += 1;
-    }
-    end
+    at + text.iter().skip(at).take_while(|&&b| is_blank(b)).count()
 }
 
-// The token that comes next from `at` on.
+// The token that comes next from `at` on. Callers keep the place that was reached, go back to it or look twice, so it is a number and no cursor.
 pub fn next_token<'a>(text: &'a [u8], at: usize) -> Result<Placed<'a>, TokenFault>
     ensures { seen_token result ≡ token_at text.now at }
 {

@@ -1,10 +1,17 @@
-// Lists of at most so many items, kept in place without a heap.
+// Lists of at most so many items, kept in place without a heap. The kit's `arrayvec` is not `Copy`, and these have to be.
 #![tactic(auto)]
 
-ghost use Rattle.std.specs.Prelude.{◌≡◌, ◌↔◌, ◌++◌, ◌∷◌, [], length, is_ok, nat_lt, OnOk, OnErr, IfSome, IsNone};
+ghost use Rattle.std.specs.Prelude.{◌≡◌, ◌↔◌, ◌++◌, ◌∷◌, [], length, drop, is_ok, nat_lt, OnOk, OnErr, IfSome, IsNone, ⊤};
 
 use std::alloc::AllocError;
 use std::marker::Model;
+
+// The items from `start` on; none past the end.
+pub fn rest_from<T>(items: &[T], start: usize) -> &[T]
+    ensures { result.now ≡ drop start items.now }
+{
+    items.get(start..).unwrap_or(&[])
+}
 
 // A kind of item with a value that stands where there is no item.
 pub trait Blank: Copy {
@@ -18,7 +25,8 @@ pub trait Blank: Copy {
 #[derive(Clone, Copy, Debug, PartialEq, Eq)]
 pub struct ListFull;
 
-// At most N items, in the first `count` places; the places behind them hold blanks. Who writes the fields proves that this stays so.
+// At most N items without a heap, in the first `count` places; the places behind them hold blanks. Who writes the fields proves that this stays so.
+#[derive(Debug, PartialEq, Eq)]
 pub struct FixedList<T: Blank, const N: usize> {
     pub places: [T; N],
     pub count: usize,
@@ -41,8 +49,11 @@ impl<T: Blank, const N: usize> Model for FixedList<T, N> {
     ghost inverse_ok = { λ l h. (λ j. record { places = places_back N T.Blank.blank l.count l.places h j; count = held_count N T.Blank.blank l.count l.places h j }) };
 }
 
+// By hand: a derived clone is only known to be of clones of the items, and the check leaves its invariant open.
 impl<T: Blank, const N: usize> Clone for FixedList<T, N> {
     ghost is_clone = { λ a b. b ≡ a };
+
+    ghost is_infallible = { λ _. ⊤ };
 
     fn clone(&self) -> Result<Self, AllocError> {
         Ok(*self)

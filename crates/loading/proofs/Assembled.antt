@@ -1,10 +1,8 @@
 -- A load that passed all questions leaves what the files say. Assumes nothing.
-use Rattle.std.proofs.Common.{◌≡◌, ℕ, ◌<◌, ◌≤◌, true, false, leb, List, ◌++◌, map, length, get_or, drop, Ok, Err, sym, refl, ap, ◌∙◌, subst, arith}
+use Rattle.std.proofs.Common.{◌≡◌, ℕ, ◌<◌, ◌≤◌, true, leb, List, ◌++◌, map, length, get_or, drop, Ok, sym, refl, ap, ◌∙◌, subst, arith}
 use lib.ListN.{length-map}
 use Rattle.std.proofs.lemmas.Bool.{leb-true, and_parts}
 use Rattle.std.specs.List.{range_with_len}
-use Rattle.files.specs.declared.fault.Fault.{Fault}
-use Rattle.files.specs.declared.fault.Fault.TheVariants.{TablesTooShort}
 use Rattle.layouts.specs.declared.transitions.Header.{Header}
 use Rattle.systems.specs.Tabled.{tabled}
 use Rattle.systems.specs.declared.transition.Transition.{Transition}
@@ -25,17 +23,8 @@ use Rattle.loading.proofs.Meant.{moves_meant, labels_meant, written_front, chang
 
 -- the answer, question by question
 module _ (ts ls : List ℕ) (known known2 : List Name) (rs ss : ℕ) where
-  pub loaded_first : (f : Fault) → transition_part ts known ≡ Err f → loaded ts ls known known2 rs ss ≡ Err f
-  loaded_first f e = rw e refl
-
   module _ (h : Header) (e : transition_part ts known ≡ Ok h) where
-    pub loaded_second : (f : Fault) → label_part ls h.states known2 ≡ Err f → loaded ts ls known known2 rs ss ≡ Err f
-    loaded_second f e2 = rw (e, e2) refl
-
     module _ (names : List Name) (e2 : label_part ls h.states known2 ≡ Ok names) where
-      pub loaded_third : tables_fit h rs ss ≡ false → loaded ts ls known known2 rs ss ≡ Err TablesTooShort
-      loaded_third e3 = rw (e, e2, e3) refl
-
       pub loaded_all : tables_fit h rs ss ≡ true → loaded ts ls known known2 rs ss ≡ Ok (record { header = h; names = names })
       loaded_all e3 = rw (e, e2, e3) refl
 

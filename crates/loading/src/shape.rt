@@ -9,7 +9,7 @@ mod loading;
 pub use loading::load;
 
 // How many states a table has, which is the initial one, and how many records hold its transitions. Only a load makes one.
-#[derive(Clone, Copy)]
+#[derive(Clone, Copy, Debug, PartialEq, Eq)]
 pub struct Shape {
     states: u16,
     initial: u16,
@@ -30,7 +30,7 @@ impl Shape {
         Shape {
             states: header.states,
             initial: header.initial,
-            moves: header.transitions as usize,
+            moves: usize::from(header.transitions),
         }
     }
 

@@ -5,7 +5,7 @@ ghost use Rattle.text.specs.Held.{held};
 use text::numbering::Names;
 
 // Events 0 to 63 and propositions 0 to 63, in the order in which loads brought their names. It grows only by a load.
-#[derive(Clone, Copy)]
+#[derive(Clone, Copy, Debug, PartialEq, Eq)]
 pub struct Vocabulary {
     pub(crate) events: Names,
     pub(crate) propositions: Names,

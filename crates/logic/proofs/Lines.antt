@@ -1,7 +1,7 @@
 -- The meaning of a node is its line of the table, over the meaning of its parts. Assumes nothing.
 use Rattle.std.proofs.Common.{◌≡◌, ℕ, zero, suc, ◌<◌, Bool, true, false, T, ◌⊎◌, sym, refl, subst, inl, inr, arith}
 use Rattle.systems.specs.Meaning.{Meaning, move_count}
-use Rattle.logic.specs.declared.nodes.Guard.{Guard}
+use Rattle.logic.specs.Guards.{Guard}
 use Rattle.logic.specs.declared.nodes.Kind.{Kind}
 use Rattle.logic.specs.declared.nodes.Kind.TheVariants.{True, False, Final, Proposition, Not, And, Or, Diamond, BoxAll, AllNext, Eventually, Always, ExistsUntil, AllUntil, ExistsUntilBy, AllUntilBy, Min, Max, Variable}
 use Rattle.logic.specs.Unfolding.{Agree, unfolds, SomeMove, EveryMove, Has, HasOrTau, to}

@@ -2,7 +2,7 @@
 use Rattle.std.proofs.Common.{◌≡◌, ℕ, zero, suc, ◌<◌, Bool, true, false, not, ◌&&◌, ◌||◌, T, eqb, ◌⊎◌, ◌↔◌, sym, refl, ap, ◌∙◌, subst, inl, inr, ⊎_elim, arith, eq-eqb, true-eqb}
 use Rattle.std.proofs.lemmas.Bool.{cases_lt}
 use Rattle.systems.specs.Meaning.{Meaning, move_count, events_at, target_at}
-use Rattle.logic.specs.declared.nodes.Guard.{Guard}
+use Rattle.logic.specs.Guards.{Guard}
 use Rattle.logic.specs.declared.nodes.Kind.TheVariants.{Final, BoxAll, AllNext, Eventually, Always, ExistsUntil, AllUntil, ExistsUntilBy, AllUntilBy}
 use Rattle.logic.specs.Unfolding.{unfolds, HasOrTau, iterate, Least, Greatest}
 use Rattle.logic.specs.Derived.{parts, without, diamond, box, all_next, any_events, all_states, or_tau, both, other, StandardOperators, rounds, Duality}

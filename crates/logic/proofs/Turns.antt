@@ -1,10 +1,9 @@
 -- More turns than an entry's number change nothing. Assumes nothing.
-use Rattle.std.proofs.Common.{◌≡◌, ℕ, zero, suc, ◌<◌, ◌≤◌, Bool, true, false, ◌&&◌, ltb, List, length, Some, refl, ap, ◌∙◌, arith}
+use Rattle.std.proofs.Common.{◌≡◌, ℕ, zero, suc, ◌<◌, Bool, true, false, ◌&&◌, ltb, List, Some, None, Option, sym, refl, ap, ◌∙◌, arith}
 use Rattle.std.proofs.lemmas.Bool.{ltb-true}
 use Rattle.std.specs.List.{slice_get}
 use Rattle.logic.specs.declared.events.EventFormula.{EventFormula}
 use Rattle.logic.specs.Events.{by_parts, satisfies_in, satisfies, part_satisfies, ByParts}
-use Rattle.std.proofs.lemmas.Option.{slice_get_past}
 
 -- a part counts only before the entry
 guarded : (a k : ℕ) (x y : Bool) → (a < k → x ≡ y) → (ltb a k && x) ≡ (ltb a k && y)
@@ -26,9 +25,13 @@ pub by_parts_lem : ByParts
 unfolding satisfies_in
 by_parts_lem entries k set = ap (by_parts (slice_get entries k) set) (λ i a. guarded a k (satisfies_in k entries a set) (satisfies entries a set) (λ lt. turns entries set k (suc a) a lt (omega arith)) i)
 
--- the entry that stands at k
-pub read_entry : (entries : List EventFormula) (k set : ℕ) (e : EventFormula) → slice_get entries k ≡ Some e → satisfies entries k set ≡ by_parts (Some e) set (part_satisfies entries k set)
-read_entry entries k set e h = by_parts_lem entries k set ∙ ap (λ o. by_parts o set (part_satisfies entries k set)) h
+-- what was read at k, by its parts
+module _ (entries : List EventFormula) (k set : ℕ) (o : Option EventFormula) (read : o ≡ slice_get entries k) where
+  of_read : (p : Option EventFormula) → o ≡ p → by_parts p set (part_satisfies entries k set) ≡ satisfies entries k set
+  of_read p e = sym (by_parts_lem entries k set ∙ ap (λ q. by_parts q set (part_satisfies entries k set)) (sym read ∙ e))
 
-pub no_entry : (entries : List EventFormula) (k set : ℕ) → length entries ≤ k → satisfies entries k set ≡ false
-no_entry entries k set h = by_parts_lem entries k set ∙ ap (λ o. by_parts o set (part_satisfies entries k set)) (slice_get_past entries k h)
+  pub of_none : o ≡ None → false ≡ satisfies entries k set
+  of_none e = of_read None e
+
+  pub of_some : (x y : EventFormula) → o ≡ Some x → x ≡ y → by_parts (Some y) set (part_satisfies entries k set) ≡ satisfies entries k set
+  of_some x y e f = of_read (Some y) (e ∙ ap Some f)

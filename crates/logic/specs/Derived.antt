@@ -1,7 +1,7 @@
 -- The standard equations of the operators, for sets of states as tests. Assumes nothing.
 use Rattle.std.specs.Prelude.{ℕ, zero, suc, ◌<◌, Bool, true, false, not, ◌&&◌, ◌||◌, T, ◌⊎◌, ◌↔◌, ◌==◌}
 use Rattle.systems.specs.Meaning.{Meaning, move_count, events_at, target_at}
-use Rattle.logic.specs.declared.nodes.Guard.{Guard}
+use Rattle.logic.specs.Guards.{Guard}
 use Rattle.logic.specs.declared.nodes.Kind.TheVariants.{Final, Diamond, BoxAll, AllNext, Eventually, Always, ExistsUntil, AllUntil, ExistsUntilBy, AllUntilBy}
 use Rattle.logic.specs.Unfolding.{Agree, unfolds, Least, Greatest}
 

@@ -1,7 +1,7 @@
 -- When a node of a formula holds at a state. A formula is given by the kind of each of its nodes. Assumes nothing.
 use Rattle.std.specs.Prelude.{◌≡◌, ℕ, zero, suc, ◌<◌, Bool, true, false, T, ◌⊎◌, ◌↔◌, ◌==◌}
 use Rattle.systems.specs.Meaning.{Meaning}
-use Rattle.logic.specs.declared.nodes.Guard.{Guard}
+use Rattle.logic.specs.Guards.{Guard}
 use Rattle.logic.specs.declared.nodes.Kind.{Kind}
 use Rattle.logic.specs.declared.nodes.Kind.TheVariants.{True, False, Final, Proposition, Not, And, Or, Diamond, BoxAll, AllNext, Eventually, Always, ExistsUntil, AllUntil, ExistsUntilBy, AllUntilBy, Min, Max, Variable}
 use Rattle.logic.specs.Unfolding.{Agree, unfolds, Least, Greatest}

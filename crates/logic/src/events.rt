@@ -1,12 +1,13 @@
 // Event formulas: entries of an array, each numbered after its parts.
 ghost use Rattle.std.specs.Prelude.{◌≡◌, ◌==◌};
-ghost use Rattle.logic.specs.Events.{has_event, satisfies, part_satisfies, ByParts};
+ghost use Rattle.std.specs.List.{slice_get};
+ghost use Rattle.logic.specs.Events.{satisfies, part_satisfies, ByParts};
 
-// Events are numbered below this.
-const MAX_EVENTS: u8 = 64;
+use lists::Blank;
+use systems::sets::has;
 
-// An entry; parts are entries by number.
-#[derive(Clone, Copy)]
+// An entry; parts are entries by number, since no formula takes heap memory.
+#[derive(Clone, Copy, Debug, PartialEq, Eq)]
 pub enum EventFormula {
     True,
     False,
@@ -19,6 +20,17 @@ pub enum EventFormula {
     Or(u8, u8),
 }
 
+// What stands in a place without an entry.
+impl Blank for EventFormula {
+    ghost use Rattle.logic.specs.declared.events.EventFormula.TheVariants.{False};
+
+    ghost blank = { False };
+
+    fn blank() -> EventFormula {
+        Self::False
+    }
+}
+
 // Whether the set is empty.
 fn is_silent(events: u64) -> bool
     ensures { result ≡ (events == 0) }
@@ -26,11 +38,11 @@ fn is_silent(events: u64) -> bool
     events == 0
 }
 
-// Whether the set holds the event.
-fn holds_event(events: u64, event: u8) -> bool
-    ensures { result ≡ has_event events event }
+// The entry with the number, if there is one.
+fn entry_at(entries: &[EventFormula], entry: u8) -> Option<EventFormula>
+    ensures { result ≡ slice_get entries.now entry }
 {
-    event < MAX_EVENTS && (events >> event) % 2 == 1
+    entries.get(usize::from(entry)).copied()
 }
 
 // Whether a part of the entry is true of the set; what does not stand before the entry is true of no set.
@@ -46,19 +58,21 @@ fn part_accepts(entries: &[EventFormula], entry: u8, part: u8, events: u64) -> b
 pub fn accepts(entries: &[EventFormula], entry: u8, events: u64) -> bool
     ensures { result ≡ satisfies entries.now entry events }
 {
-    if entry as usize >= entries.len() {
+    let Some(formula) = entry_at(entries, entry) else {
         return false;
-    }
-    match entries[entry as usize] {
+    };
+    match formula {
         EventFormula::True => true,
         EventFormula::False => false,
         EventFormula::Tau => is_silent(events),
-        EventFormula::Event(e) => holds_event(events, e),
+        EventFormula::Event(e) => has(events, e),
         EventFormula::Not(a) => !part_accepts(entries, entry, a, events),
-        EventFormula::And(a, b) => part_accepts(entries, entry, a, events)
-            & part_accepts(entries, entry, b, events),
-        EventFormula::Or(a, b) => part_accepts(entries, entry, a, events)
-            | part_accepts(entries, entry, b, events),
+        EventFormula::And(a, b) => {
+            part_accepts(entries, entry, a, events) && part_accepts(entries, entry, b, events)
+        }
+        EventFormula::Or(a, b) => {
+            part_accepts(entries, entry, a, events) || part_accepts(entries, entry, b, events)
+        }
     }
 }
 

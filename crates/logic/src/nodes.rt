@@ -1,14 +1,13 @@
 // The nodes of a formula.
+ghost use Rattle.std.specs.Prelude.{◌≡◌, true};
 
-// Which moves are meant: all, or those whose events satisfy an entry of the event formulas.
-#[derive(Clone, Copy)]
-pub enum Guard {
-    Any,
-    By(u8),
-}
+use lists::Blank;
 
-// The kind of a node; parts are nodes by number, and a variable names its binder.
-#[derive(Clone, Copy)]
+// Which moves are meant: those whose events satisfy an entry of the event formulas, or all, where none is given.
+pub type Guard = Option<u8>;
+
+// The kind of a node; parts are nodes by number, since no formula takes heap memory, and a variable names its binder.
+#[derive(Clone, Copy, Debug, PartialEq, Eq)]
 pub enum Kind {
     True,
     False,
@@ -42,11 +41,26 @@ pub enum Kind {
 }
 
 // A node of a formula.
-#[derive(Clone, Copy)]
+#[derive(Clone, Copy, Debug, PartialEq, Eq)]
 pub struct Node {
     pub kind: Kind,
     // The number of binders around it.
     pub depth: u8,
     // Whether the number of `not` between it and the root is even.
     pub sign: bool,
+}
+
+// What stands in a place without a node.
+impl Blank for Node {
+    ghost use Rattle.logic.specs.declared.nodes.Kind.TheVariants.{False};
+
+    ghost blank = { record { kind = False; depth = 0; sign = true } };
+
+    fn blank() -> Node {
+        Node {
+            kind: Kind::False,
+            depth: 0,
+            sign: true,
+        }
+    }
 }

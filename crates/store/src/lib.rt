@@ -1,10 +1,14 @@
 // A last-in first-out store of records over places that are lent to it.
 #![tactic(auto)]
 
-ghost use Rattle.std.specs.Prelude.{◌≡◌, ◌<◌, ◌≤◌, [], length, Some};
-ghost use Rattle.store.specs.Stored.{held, Put, Pushed, Taken, LastInFirstOut};
+ghost use Rattle.std.specs.Prelude.{◌≡◌, ◌<◌, ◌≤◌, [], length, Some, is_ok};
+ghost use Rattle.store.specs.Stored.{Put, Taken, LastInFirstOut};
 
-// The first `count` places hold the records, the newest last.
+// Every place holds a record.
+#[derive(Clone, Copy, Debug, PartialEq, Eq)]
+pub struct StoreFull;
+
+// The first `count` places hold the records, the newest last. The places are lent, so their count stands beside them.
 #[derive(Drop)]
 pub struct Store<'a, T: Copy> {
     places: &'a mut [T],
@@ -13,9 +17,11 @@ pub struct Store<'a, T: Copy> {
 }
 
 impl<'a, T: Copy> Store<'a, T> {
+    ghost use Rattle.store.specs.Records.{records, PushedTo};
+
     // A store that holds nothing, over all of the places.
     pub fn new(places: &'a mut [T]) -> Self
-        ensures none { held result.count result.places.now ≡ [] }
+        ensures none { records result ≡ [] }
         ensures lent { result.places.now ≡ places.old }
     {
         Store { places, count: 0 }
@@ -24,27 +30,27 @@ impl<'a, T: Copy> Store<'a, T> {
     // Puts the record into the first free place.
     fn put(&mut self, x: T)
         requires { self.old.count < length self.old.places.now }
-        ensures { Put x (held self.old.count self.old.places.now) (held self.new.count self.new.places.now) self.old.places.now self.new.places.now }
+        ensures { Put x (records self.old) (records self.new) self.old.places.now self.new.places.now }
     {
         self.places[self.count] = x;
         self.count += 1;
     }
 
     // Puts the record on top, unless every place is taken.
-    pub fn push(&mut self, x: T) -> bool
-        ensures { Pushed result x self.old.count self.old.places.now self.new.count self.new.places.now }
+    pub fn push(&mut self, x: T) -> Result<(), StoreFull>
+        ensures { PushedTo (is_ok result) x self.old self.new }
     {
         if self.count == self.places.len() {
-            return false;
+            return Err(StoreFull);
         }
         self.put(x);
-        true
+        Ok(())
     }
 
     // Takes the newest of at least one record.
     fn pop(&mut self) -> T
         requires { 0 < self.old.count }
-        ensures newest { Taken (Some result) (held self.old.count self.old.places.now) (held self.new.count self.new.places.now) }
+        ensures newest { Taken (Some result) (records self.old) (records self.new) }
         ensures kept { self.new.places.now ≡ self.old.places.now }
     {
         self.count -= 1;
@@ -53,7 +59,7 @@ impl<'a, T: Copy> Store<'a, T> {
 
     // Takes the newest record, if there is one.
     pub fn take(&mut self) -> Option<T>
-        ensures newest { Taken result (held self.old.count self.old.places.now) (held self.new.count self.new.places.now) }
+        ensures newest { Taken result (records self.old) (records self.new) }
         ensures kept { self.new.places.now ≡ self.old.places.now }
     {
         if self.count == 0 {
@@ -65,22 +71,20 @@ impl<'a, T: Copy> Store<'a, T> {
 
     // The records, the newest last.
     pub fn held(&self) -> &[T]
-        ensures { result.now ≡ held self.now.count self.now.places.now }
+        ensures { result.now ≡ records self.now }
     {
         &self.places[..self.count]
     }
 
     // How many records are held.
     pub fn count(&self) -> usize
-        ensures { result ≡ length (held self.now.count self.now.places.now) }
+        ensures { result ≡ length (records self.now) }
     {
         self.held().len()
     }
 }
 
 // A record that was pushed is the one that the next take gives.
-pub fn last_in_first_out<T: Copy>(_records: &[T]) -> u8
+pub fn last_in_first_out<T: Copy>()
     ensures { LastInFirstOut T }
-{
-    0
-}
+{}

@@ -2,32 +2,37 @@
 use loading::shape::Shape;
 use loading::vocabulary::Vocabulary;
 use std::alloc::{AllocError, Global};
+use std::fmt::Write;
+use systems::sets::has;
 use systems::system::System;
 use systems::transition::Transition;
 use tables::table::Table;
-use text::names::Name;
 use text::numbering::Names;
 
-// Adds the bytes of a name.
-fn push_name(out: &mut String, name: &Name) -> Result<(), AllocError> {
-    for i in 0..name.len() {
-        out.push(name.byte(i) as char)?;
+// Adds names by number, a line each.
+fn push_names(out: &mut String, title: &str, names: &Names) -> Result<(), AllocError> {
+    writeln!(out, "{title}")?;
+    for (number, name) in names.names().iter().enumerate() {
+        writeln!(out, "  {number} {name}")?;
     }
     Ok(())
 }
 
-// Adds names by number, a line each.
-fn push_names(
+// Adds the names whose numbers pass, in order: `front` before the first, and `gap` before each other one.
+fn push_members<F: Fn(u8) -> bool>(
     out: &mut String,
-    heap: Global,
-    title: &str,
     names: &Names,
-) -> Result<(), AllocError> {
-    out.push_str(title)?;
-    for (number, name) in names.names().iter().enumerate() {
-        out.push_str(format!(in heap; "  {number} ")?.as_str())?;
-        push_name(out, name)?;
-        out.push_str("\n")?;
+    front: &str,
+    gap: &str,
+    is_member: F,
+) -> Result<(), AllocError>
+    requires { (test : F) (number : _) → F.pre test number }
+{
+    let numbered = (0..=u8::MAX).zip(names.names());
+    let members = numbered.filter(|(number, _)| is_member(*number));
+    for (place, (_, name)) in members.enumerate() {
+        let before = if place == 0 { front } else { gap };
+        write!(out, "{before}{name}")?;
     }
     Ok(())
 }
@@ -39,62 +44,44 @@ fn push_propositions(
     q: u16,
     names: &Names,
 ) -> Result<(), AllocError> {
-    for (number, name) in names.names().iter().enumerate() {
-        if number < 64 && table.holds(q, number as u8) {
-            out.push_str(" ")?;
-            push_name(out, name)?;
-        }
-    }
-    out.push_str("\n")
+    push_members(out, names, " ", " ", |number| table.holds(q, number))?;
+    writeln!(out)
 }
 
 // Adds the events of a set, by name and as in a file: `i` for none.
 fn push_events(out: &mut String, events: u64, names: &Names) -> Result<(), AllocError> {
     if events == 0 {
-        return out.push_str("i");
+        return write!(out, "i");
     }
-    let mut first = true;
-    for (number, name) in names.names().iter().enumerate() {
-        if number < 64 && (events >> number) % 2 == 1 {
-            if !first {
-                out.push_str(";")?;
-            }
-            first = false;
-            push_name(out, name)?;
-        }
-    }
-    Ok(())
+    push_members(out, names, "", ";", |number| has(events, number))
 }
 
-// Adds a state with its propositions and its moves.
+// Adds a state with its propositions and its moves; a table is asked for a move by its number.
 fn push_state(
     out: &mut String,
-    heap: Global,
     table: &Table,
     q: u16,
     vocabulary: &Vocabulary,
 ) -> Result<(), AllocError> {
-    out.push_str(format!(in heap; "state {q}:")?.as_str())?;
+    write!(out, "state {q}:")?;
     push_propositions(out, table, q, vocabulary.propositions())?;
     for i in 0..table.move_count(q) {
-        out.push_str("  ")?;
-        push_events(out, table.events(q, i), vocabulary.events())?;
         let target = table.target(q, i);
-        out.push_str(format!(in heap; " -> {target}\n")?.as_str())?;
+        write!(out, "  ")?;
+        push_events(out, table.events(q, i), vocabulary.events())?;
+        writeln!(out, " -> {target}")?;
     }
     Ok(())
 }
 
-// How many moves the table shows.
+// How many moves the table shows. A plain `sum` would have to be proved to fit, and no contract here bounds it.
 fn move_total(table: &Table) -> usize {
-    let mut total = 0usize;
-    for q in 0..table.states() {
-        total = total.saturating_add(table.move_count(q));
-    }
-    total
+    (0..table.states())
+        .map(|q| table.move_count(q))
+        .fold(0usize, |total, moves| total.saturating_add(moves))
 }
 
-// States, moves, events and propositions by number and name, and each state.
+// States, moves, events and propositions by number and name, and each state by its number.
 pub(crate) fn report<'x>(
     heap: Global,
     shape: Shape,
@@ -107,13 +94,12 @@ pub(crate) fn report<'x>(
     let states = table.states();
     let initial = table.initial();
     let moves = move_total(&table);
-    out.push_str(format!(in heap;
-        "states {states}, initial {initial}\nmoves {moves}\n"
-    )?.as_str())?;
-    push_names(&mut out, heap, "events\n", vocabulary.events())?;
-    push_names(&mut out, heap, "propositions\n", vocabulary.propositions())?;
+    writeln!(out, "states {states}, initial {initial}")?;
+    writeln!(out, "moves {moves}")?;
+    push_names(&mut out, "events", vocabulary.events())?;
+    push_names(&mut out, "propositions", vocabulary.propositions())?;
     for q in 0..states {
-        push_state(&mut out, heap, &table, q, vocabulary)?;
+        push_state(&mut out, &table, q, vocabulary)?;
     }
     Ok(out)
 }

@@ -1,5 +1,6 @@
 -- The symbols of a text. Assumes nothing.
 use Rattle.std.specs.Prelude.{ℕ, zero, suc, Bool, true, false, cond, List, [], ◌∷◌, length, Some, None, codes, Option, ◌==◌}
+use denote.Bor.{Bor}
 use Rattle.text.specs.Words.{same}
 use Rattle.text.specs.Names.{named}
 use Rattle.text.specs.declared.names.Name.{Name}
@@ -79,6 +80,11 @@ reserved_symbol w =
     cond (same w (codes "and")) symbol.And (
     cond (same w (codes "or")) symbol.Or (
     cond (same w (codes "tau")) symbol.Tau (operator_symbol w)))))))
+
+-- the symbol of the first entry that is spelled so, else that of `i`
+abbrev pub symbol_in : List (Bor (List ℕ) × Symbol) → List ℕ → Symbol
+symbol_in [] w = symbol.Silent
+symbol_in (e ∷ entries) w = cond (same w e.0.now) e.1 (symbol_in entries w)
 
 abbrev pub name_or : Option Name → Symbol → Symbol
 name_or (Some n) s = symbol.Name n

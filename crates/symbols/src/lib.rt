@@ -2,13 +2,12 @@
 #![tactic(auto)]
 
 ghost use Rattle.std.specs.Prelude.{◌≡◌};
-ghost use Rattle.symbols.specs.Symbols.{symbol_number, is, mark_symbol, operator_symbol, word_symbol, symbol_at, accept_at, lexes};
+ghost use Rattle.symbols.specs.Symbols.{symbol_number, is, symbol_in, reserved_symbol, word_symbol, symbol_at, accept_at, lexes};
 
 use lexer::{Mark, Token, next_token};
 use text::names::Name;
-use text::words::same_bytes;
 
-#[derive(Clone, Copy)]
+#[derive(Clone, Copy, Debug, PartialEq, Eq)]
 pub enum Symbol {
     // The text has ended, or what comes next is no token.
     End,
@@ -50,14 +49,14 @@ pub enum Symbol {
 }
 
 // A symbol, and the place behind it.
-#[derive(Clone, Copy)]
+#[derive(Clone, Copy, Debug, PartialEq, Eq)]
 pub struct Found {
     pub symbol: Symbol,
     pub after: usize,
 }
 
 impl Symbol {
-    // The number of a mark or a reserved word; all names have one number.
+    // The number of a mark or a reserved word; all names have one number. With `==` of the derive in its place the check of `is` met its step limit.
     fn number(&self) -> u8
         ensures { result ≡ symbol_number self.now }
     {
@@ -102,71 +101,72 @@ impl Symbol {
 }
 
 // The symbol of a mark.
-fn mark_symbol(mark: Mark) -> Symbol
-    ensures { result ≡ mark_symbol mark }
-{
-    match mark {
-        Mark::OpenRound => Symbol::OpenRound,
-        Mark::CloseRound => Symbol::CloseRound,
-        Mark::OpenSquare => Symbol::OpenSquare,
-        Mark::CloseSquare => Symbol::CloseSquare,
-        Mark::OpenCurly => Symbol::OpenCurly,
-        Mark::CloseCurly => Symbol::CloseCurly,
-        Mark::OpenAngle => Symbol::OpenAngle,
-        Mark::CloseAngle => Symbol::CloseAngle,
-        Mark::Colon => Symbol::Colon,
+impl From<Mark> for Symbol {
+    ghost use Rattle.symbols.specs.Symbols.{mark_symbol};
+
+    ghost from_gives = { λ m s. s ≡ mark_symbol m };
+
+    fn from(mark: Mark) -> Symbol {
+        match mark {
+            Mark::OpenRound => Symbol::OpenRound,
+            Mark::CloseRound => Symbol::CloseRound,
+            Mark::OpenSquare => Symbol::OpenSquare,
+            Mark::CloseSquare => Symbol::CloseSquare,
+            Mark::OpenCurly => Symbol::OpenCurly,
+            Mark::CloseCurly => Symbol::CloseCurly,
+            Mark::OpenAngle => Symbol::OpenAngle,
+            Mark::CloseAngle => Symbol::CloseAngle,
+            Mark::Colon => Symbol::Colon,
+        }
     }
 }
 
-// The symbol of a reserved word that is an operator on formulas of states; else that of `i`.
-fn operator_symbol(word: &[u8]) -> Symbol
-    ensures { result ≡ operator_symbol word.now }
+// The reserved words, but for `i`.
+const RESERVED: [(&[u8], Symbol); 16] = [
+    (b"true", Symbol::True),
+    (b"false", Symbol::False),
+    (b"FINAL", Symbol::Final),
+    (b"not", Symbol::Not),
+    (b"and", Symbol::And),
+    (b"or", Symbol::Or),
+    (b"tau", Symbol::Tau),
+    (b"min", Symbol::Min),
+    (b"max", Symbol::Max),
+    (b"E", Symbol::Exists),
+    (b"A", Symbol::All),
+    (b"U", Symbol::Until),
+    (b"EX", Symbol::ExistsNext),
+    (b"AX", Symbol::AllNext),
+    (b"EF", Symbol::Eventually),
+    (b"AG", Symbol::Always),
+];
+
+// The symbol of the first entry that is spelled so, else that of `i`.
+fn symbol_in(entries: &[(&[u8], Symbol)], word: &[u8]) -> Symbol
+    ensures { result ≡ symbol_in entries.now word.now }
 {
-    if same_bytes(word, b"min") {
-        Symbol::Min
-    } else if same_bytes(word, b"max") {
-        Symbol::Max
-    } else if same_bytes(word, b"E") {
-        Symbol::Exists
-    } else if same_bytes(word, b"A") {
-        Symbol::All
-    } else if same_bytes(word, b"U") {
-        Symbol::Until
-    } else if same_bytes(word, b"EX") {
-        Symbol::ExistsNext
-    } else if same_bytes(word, b"AX") {
-        Symbol::AllNext
-    } else if same_bytes(word, b"EF") {
-        Symbol::Eventually
-    } else if same_bytes(word, b"AG") {
-        Symbol::Always
-    } else {
-        Symbol::Silent
+    for &(spelling, symbol) in entries {
+        if spelling == word {
+            return symbol;
+        }
     }
+    Symbol::Silent
+}
+
+// What a reserved word means.
+fn reserved_symbol(word: &[u8]) -> Symbol
+    ensures { result ≡ reserved_symbol word.now }
+{
+    symbol_in(&RESERVED, word)
 }
 
 // The symbol of a word: a name, or what a reserved word means.
 fn word_symbol(word: &[u8]) -> Symbol
     ensures { result ≡ word_symbol word.now }
 {
-    if let Some(name) = Name::new(word) {
-        Symbol::Name(name)
-    } else if same_bytes(word, b"true") {
-        Symbol::True
-    } else if same_bytes(word, b"false") {
-        Symbol::False
-    } else if same_bytes(word, b"FINAL") {
-        Symbol::Final
-    } else if same_bytes(word, b"not") {
-        Symbol::Not
-    } else if same_bytes(word, b"and") {
-        Symbol::And
-    } else if same_bytes(word, b"or") {
-        Symbol::Or
-    } else if same_bytes(word, b"tau") {
-        Symbol::Tau
-    } else {
-        operator_symbol(word)
+    match Name::new(word) {
+        Some(name) => Symbol::Name(name),
+        None => reserved_symbol(word),
     }
 }
 
@@ -178,7 +178,7 @@ pub fn next_symbol(text: &[u8], at: usize) -> Found
         Ok(placed) => Found {
             symbol: match placed.token {
                 Token::End => Symbol::End,
-                Token::Mark(mark) => mark_symbol(mark),
+                Token::Mark(mark) => Symbol::from(mark),
                 Token::Word(word) => word_symbol(word),
             },
             after: placed.after,
@@ -195,14 +195,10 @@ pub fn accept(text: &[u8], at: usize, wanted: Symbol) -> Option<usize>
     ensures { result ≡ accept_at text.now at wanted }
 {
     let next = next_symbol(text, at);
-    if next.symbol.is(&wanted) {
-        Some(next.after)
-    } else {
-        None
-    }
+    next.symbol.is(&wanted).then_some(next.after)
 }
 
-// Whether the text is tokens up to its end.
+// Whether the text is tokens up to its end. Each token begins where the one before ended, so the loop goes from place to place.
 pub fn is_lexed(text: &[u8]) -> bool
     ensures { result ≡ lexes text.now }
 {

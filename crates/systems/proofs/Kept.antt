@@ -1,18 +1,18 @@
 -- Where the elements that pass a test stand in a list, and where they come to stand among those that are kept. Assumes nothing.
-use Rattle.std.proofs.Common.{◌≡◌, ℕ, zero, suc, ◌+◌, ◌-◌, ◌<◌, ◌≤◌, Bool, true, false, cond, List, [], ◌∷◌, length, get_or, take, Some, filter, refl, ap, ◌∙◌, ⊎_elim, arith}
+use Rattle.std.proofs.Common.{◌≡◌, ℕ, zero, suc, ◌+◌, ◌<◌, Bool, true, false, cond, List, [], ◌∷◌, map, length, get_or, take, Some, filter, sym, refl, ap, ◌∙◌, ⊎_elim, arith}
 use Rattle.std.specs.List.{slice_get}
 use Rattle.std.proofs.lemmas.List.Filters.{length-filter_more}
-use Rattle.std.proofs.lemmas.Bool.{cond_both, cond-true, cond-false, cases_Bool}
+use Rattle.std.proofs.lemmas.Bool.{cond-true, cond-false, cases_Bool}
 
 -- how many of the first n pass
 abbrev pub passing : {X : Type 0} → (X → Bool) → List X → ℕ → ℕ
 passing p xs n = length (filter p (take n xs))
 
-pub nth_take : {X : Type 0} (xs : List X) (n i : ℕ) → i < n → slice_get (take n xs) i ≡ slice_get xs i
-nth_take xs zero i h = absurd (omega arith)
-nth_take [] (suc n) i h = refl
-nth_take (x ∷ xs) (suc n) zero h = refl
-nth_take (x ∷ xs) (suc n) (suc i) h = nth_take xs n i (omega arith)
+-- what a function makes of an element and of the default, it makes of what is read anywhere
+pub read_map : {X Y : Type 0} (f : X → Y) (xs : List X) (i : ℕ) (d : X) (e : Y) → f d ≡ e → get_or (map f xs) i e ≡ f (get_or xs i d)
+read_map f [] i d e h = sym h
+read_map f (x ∷ xs) zero d e h = refl
+read_map f (x ∷ xs) (suc i) d e h = read_map f xs i d e h
 
 -- an element that passes is kept, and stands behind those before it that pass
 pub nth_kept : {X : Type 0} (p : X → Bool) (xs : List X) (n k : ℕ) (d : X) → k < n → k < length xs → p (get_or xs k d) ≡ true → slice_get (filter p (take n xs)) (passing p xs k) ≡ Some (get_or xs k d)
@@ -77,34 +77,3 @@ module _ {X : Type 0} (p : X → Bool) (xs : List X) (d : X) where
 
   pub passing_no : (k : ℕ) → k < length xs → p (get_or xs k d) ≡ false → passing p xs (k + 1) ≡ passing p xs k
   passing_no k h e = omega (arith, length-filter_more p xs k d h, cond-false {A = ℕ} (p (get_or xs k d)) 1 0 e)
-
-  -- n more elements add n at most
-  passing_rise : (k n : ℕ) → k + n ≤ length xs → passing p xs (k + n) ≤ passing p xs k + n
-  passing_rise k zero h =
-      let same : k + zero ≡ k = omega arith in
-      omega (arith, ap (passing p xs) same)
-  passing_rise k (suc n) h =
-      let same : k + suc n ≡ (k + n) + 1 = omega arith in
-      omega (arith, ap (passing p xs) same, passing_rise k n (omega arith), length-filter_more p xs (k + n) d (omega arith), cond_both (p (get_or xs (k + n) d)) 1 0 (λ m. m ≤ 1) (λ _. omega arith) (λ _. omega arith))
-
-  -- and take none away
-  pub passing_kept : (k n : ℕ) → k + n ≤ length xs → passing p xs k ≤ passing p xs (k + n)
-  passing_kept k zero h =
-      let same : k + zero ≡ k = omega arith in
-      omega (arith, ap (passing p xs) same)
-  passing_kept k (suc n) h =
-      let same : k + suc n ≡ (k + n) + 1 = omega arith in
-      omega (arith, ap (passing p xs) same, passing_kept k n (omega arith), length-filter_more p xs (k + n) d (omega arith))
-
-  -- where as many pass as there are elements between two places, the passing ones are counted by place
-  pub dense_rank : (low high k : ℕ) → low ≤ k → k ≤ high → high ≤ length xs → passing p xs high ≡ passing p xs low + (high - low) → passing p xs k ≡ passing p xs low + (k - low)
-  dense_rank low high k a b h e =
-      let first : low + (k - low) ≡ k = omega arith in
-      let second : k + (high - k) ≡ high = omega arith in
-      omega (arith, e, ap (passing p xs) first, ap (passing p xs) second, passing_rise low (k - low) (omega arith), passing_rise k (high - k) (omega arith))
-
-  -- and each of them passes
-  pub dense_passes : (low high k : ℕ) → low ≤ k → k < high → high ≤ length xs → passing p xs high ≡ passing p xs low + (high - low) → p (get_or xs k d) ≡ true
-  dense_passes low high k a b h e = ⊎_elim (λ t. t)
-      (λ f. absurd (omega (arith, dense_rank low high k a (omega arith) h e, dense_rank low high (k + 1) (omega arith) (omega arith) h e, passing_no k (omega arith) f)))
-      (cases_Bool (p (get_or xs k d)))

@@ -1,4 +1,4 @@
 pub mod Kept
 pub mod Listed
 pub mod Most
-pub mod Sets
+pub mod Members

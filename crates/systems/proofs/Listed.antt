@@ -3,6 +3,7 @@ use Rattle.std.proofs.Common.{◌≡◌, ℕ, zero, suc, ◌%◌, ◌^◌, ◌<�
 use lib.ListN.{length-map}
 use Rattle.std.specs.List.{slice_get}
 use Rattle.std.proofs.lemmas.List.{get_or-map, get_or-take, get_or_default, take-take}
+use Rattle.std.proofs.lemmas.Option.{slice_get_within, get_or_from_slice_get}
 use Rattle.std.proofs.lemmas.Bool.{cond_both, cond-true, cond-false, and_left, and_right, le-ltb, ltb-true}
 use Rattle.systems.specs.Limits.{max_moves, max_propositions}
 use Rattle.systems.specs.Meaning.{move_count, move_at}
@@ -31,21 +32,14 @@ recorded states initial count records q i h =
     let r = get_or records f.place none in
     (f.place, r, record { early = f.early; within = f.within; is = get_or_default records f.place r none f.within; joins = f.passes; rank = f.rank }, shown_is states initial count records q i h ∙ ap move_of f.is)
 
--- an element that is there is the one that is read
-nth_some : {X : Type 0} (xs : List X) (i : ℕ) (x d : X) → slice_get xs i ≡ Some x → (i < length xs) × (get_or xs i d ≡ x)
-nth_some [] i x d e = absurd (let z : ◌≡◌ {A = ℕ} 0 1 = cc in omega arith)
-nth_some (y ∷ xs) zero x d e = (omega arith, cc)
-nth_some (y ∷ xs) (suc i) x d e = let h = nth_some xs i x d e in (omega (arith, h.0), h.1)
-
 shown : Shown
 shown states initial count records q i k r l few =
     let kept = counting states q (take count records) in
     let passes : counts states q (get_or records k r) ≡ true = ap (counts states q) l.is ∙ l.joins in
     let at = nth_kept (counts states q) records count k r l.early l.within passes in
     let here : slice_get kept i ≡ Some r = ap (slice_get kept) (sym l.rank) ∙ at ∙ ap Some l.is in
-    let found = nth_some kept i r none here in
-    let there : i < move_count (tabled_transitions states initial count records) q = simp (length-map, length-take) (omega (arith, found.0)) in
-    (there, shown_is states initial count records q i there ∙ ap move_of found.1)
+    let there : i < move_count (tabled_transitions states initial count records) q = simp (length-map, length-take) (omega (arith, slice_get_within kept i r here)) in
+    (there, shown_is states initial count records q i there ∙ ap move_of (get_or_from_slice_get kept i r none here))
 
 -- an element that fails is not missed among those that are kept
 kept_without : {X : Type 0} (p : X → Bool) (before after : List X) (r : X) (n : ℕ) → length before ≤ n → p r ≡ false → filter p (take (suc n) (before ++ r ∷ after)) ≡ filter p (take n (before ++ after))

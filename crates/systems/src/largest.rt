@@ -8,12 +8,5 @@ pub fn largest_move_count<S: System>(s: &S) -> usize
     ensures is { result ≡ largest (S.System.meaning s.now).transitions }
     ensures most { Largest (S.System.meaning s.now).transitions result }
 {
-    let mut most = 0;
-    for q in 0..s.states() {
-        let n = s.move_count(q);
-        if most < n {
-            most = n;
-        }
-    }
-    most
+    (0..s.states()).map(|q| s.move_count(q)).max().unwrap_or(0)
 }

@@ -1,10 +1,12 @@
 -- The spans of the first k records, one record more at a time. Assumes nothing.
-use Rattle.std.proofs.Common.{◌≡◌, ℕ, zero, suc, ◌+◌, ◌<◌, ◌≤◌, min, true, false, cond, eqb, ltb, ◌⊎◌, List, length, get_or, take, set, replicate, sym, refl, ap, ◌∙◌, subst, ⊎_elim, arith}
-use Rattle.std.proofs.lemmas.List.{get_or-set_same, get_or-set_other, take_all}
+use Rattle.std.proofs.Common.{length-take, ◌≡◌, ℕ, zero, suc, ◌+◌, ◌<◌, ◌≤◌, min, true, false, cond, eqb, ltb, ◌⊎◌, List, length, get_or, take, set, replicate, sym, refl, ap, ◌∙◌, subst, ⊎_elim, arith}
+use Rattle.std.specs.List.{enumerate_from}
+use Rattle.std.proofs.lemmas.List.{get_or-set_same, get_or-set_other, get_or-take}
+use Rattle.std.proofs.lemmas.List.FromFn.{length-enumerate_from, get_or-enumerate_from}
 use Rattle.std.proofs.lemmas.Bool.{cond-true, cond-false, and_from, and_left, lt-ltb, le-ltb, eq-eqb, ne_eqb, cases_lt, cases_eq}
 use Rattle.systems.specs.Limits.{max_moves}
 use Rattle.systems.specs.Listing.{counting_in}
-use Rattle.systems.specs.Tabled.{counts, counting}
+use Rattle.systems.specs.Tabled.{counts}
 use Rattle.systems.specs.declared.transition.Transition.{Transition}
 use Rattle.systems.proofs.Listed.{counts_nowhere}
 use Rattle.systems.proofs.Kept.{passing_yes, passing_no}
@@ -16,19 +18,28 @@ same_read zero i x = refl
 same_read (suc n) zero x = refl
 same_read (suc n) (suc i) x = same_read n i x
 
+-- a span of three zeros is that of no records
+pub nowhere_is : (s : Span) → s.begin ≡ 0 → s.end ≡ 0 → s.count ≡ 0 → s ≡ nowhere
+nowhere_is s b e n = λ i. record { begin = b i; end = e i; count = n i }
+
+-- one turn of a loop over the first records, numbered: it has the record at the place that it has come to
+pub record Turn (records : List Transition) (read n k : ℕ) (r : Transition) : Type 0 where
+  pub within : n < length records
+  pub early : n < read
+  pub place : k ≡ n
+  pub is : r ≡ get_or records n r
+
+pub turn_at : (records : List Transition) (read n k : ℕ) (r : Transition) → n < length (enumerate_from 0 (take read records)) → (k, r) ≡ get_or (enumerate_from 0 (take read records)) n (k, r) → Turn records read n k r
+turn_at records read n k r h e =
+    let fewer : n < length (take read records) = simp length-enumerate_from at h in
+    let both : n < min read (length records) = simp length-take at fewer in
+    let early : n < read = omega arith in
+    let at = e ∙ get_or-enumerate_from 0 (take read records) n (k, r) fewer in
+    record { within = omega arith; early = early; place = omega (arith, ap (λ p. p.0) at); is = ap (λ p. p.1) at ∙ get_or-take read records n r early }
+
 -- of no records each span is empty
 pub spanned_none : (states : ℕ) (records : List Transition) (n : ℕ) → Spanned states 0 records (replicate n nowhere)
 spanned_none states records n q = subst (SpanOf states 0 records q) (sym (same_read n q nowhere)) (omega arith, omega arith, refl, refl, refl)
-
--- the spans of as many records as there are are those of more
-pub spanned_all : (states read : ℕ) (records : List Transition) (spans : List Span) → Spanned states (min read (length records)) records spans → Spanned states read records spans
-spanned_all states read records spans h q = ⊎_elim
-    (λ lt. let e : min read (length records) ≡ read = omega arith in subst (λ n. SpanOf states n records q (get_or spans q nowhere)) e (h q))
-    (λ le.
-    let e : min read (length records) ≡ length records = omega arith in
-    let whole : take (min read (length records)) records ≡ take read records = ap (λ n. take n records) e ∙ take_all (length records) records (omega arith) ∙ sym (take_all read records le) in
-    ((h q).0, omega (arith, (h q).1), (h q).2, (h q).3, (h q).4 ∙ ap (λ rs. min max_moves (length (counting states q rs))) whole))
-    (cases_lt read (length records))
 
 -- a record that does not count leaves a span as it is
 span_more_no : (states k : ℕ) (records : List Transition) (q : ℕ) (s : Span) (d : Transition) → k < length records → counts states q (get_or records k d) ≡ false → SpanOf states k records q s → SpanOf states (k + 1) records q s

@@ -7,13 +7,6 @@ use loading::shape::Shape;
 use systems::limits::{MAX_MOVES, MAX_STATES};
 use systems::transition::Transition;
 
-// The span of a state that has no records.
-pub const NOWHERE: Span = Span {
-    begin: 0,
-    end: 0,
-    count: 0,
-};
-
 impl Span {
     // The span with one more record, at a place behind it; a state that has all its moves takes no more.
     fn grown(self, place: usize) -> Span
@@ -37,13 +30,11 @@ pub fn spans_of(shape: Shape, records: &[Transition]) -> [Span; MAX_STATES]
     ensures whole { length result ≡ max_states }
     ensures spanned { Spanned shape.states shape.moves records.now result }
 {
-    let mut spans = [NOWHERE; MAX_STATES];
+    let mut spans = [Span::default(); MAX_STATES];
     let states = shape.states();
-    let read = shape.moves().min(records.len());
-    for k in 0..read {
-        let r = records[k];
+    for (k, r) in records.iter().take(shape.moves()).enumerate() {
         if r.source < states && r.target < states {
-            let q = r.source as usize;
+            let q = usize::from(r.source);
             spans[q] = spans[q].grown(k);
         }
     }

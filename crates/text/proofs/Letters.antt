@@ -1,4 +1,4 @@
--- The bytes of a word: none is 0, and each is below 256.
+-- The bytes of a word: none is 0, and each is below 128.
 use Rattle.std.proofs.Common.{◌≡◌, ℕ, zero, suc, ◌<◌, ◌≤◌, Bool, true, false, cond, ◌&&◌, ◌||◌, T, eqb, List, [], ◌∷◌, length, sym, refl, ap, ◌∙◌, ⊎_elim, arith}
 use Rattle.std.specs.List.{AllByRecursion}
 use Rattle.std.proofs.lemmas.Bool.{cases_lt, and_parts, or_cases, eqb-true, false≢true, lt-leb, le-leb, ne_eqb}
@@ -16,8 +16,8 @@ pub true_T : (b : Bool) → b ≡ true → T b
 true_T true e = tt
 true_T false e = absurd (false≢true e)
 
--- no number past the bytes has a class of its own
-other : (b : ℕ) → 256 ≤ b → class_rule b ≡ Other
+-- no number past ASCII has a class of its own
+other : (b : ℕ) → 128 ≤ b → class_rule b ≡ Other
 other b h =
     simp (
       le-leb 65 b (omega arith),
@@ -41,16 +41,16 @@ other b h =
       ne_eqb b 10 (λ e. omega arith),
     )
 
-high : (b : ℕ) → 256 ≤ b → is_inner b ≡ false
+high : (b : ℕ) → 128 ≤ b → is_inner b ≡ false
 high b h = ap (λ c. (same_class c Letter || same_class c Underscore) || (same_class c Digit || same_class c Dot)) (other b h)
 
--- a byte that is not 0
+-- an ASCII byte that is not 0
 abbrev pub Solid : ℕ → Type 0
-Solid b = (0 < b) × (b < 256)
+Solid b = (0 < b) × (b < 128)
 
 pub inner_solid : (b : ℕ) → is_inner b ≡ true → Solid b
 inner_solid zero e = absurd (false≢true e)
-inner_solid (suc n) e = (omega arith, ⊎_elim (λ lt. lt) (λ le. absurd (false≢true (sym (high (suc n) le) ∙ e))) (cases_lt (suc n) 256))
+inner_solid (suc n) e = (omega arith, ⊎_elim (λ lt. lt) (λ le. absurd (false≢true (sym (high (suc n) le) ∙ e))) (cases_lt (suc n) 128))
 
 goes_solid : (x : ℕ) (xs : List ℕ) → goes_on (x ∷ xs) ≡ true → Solid x
 goes_solid x xs e = ⊎_elim (inner_solid x) (λ f. let is : x ≡ 58 = eqb-true x 58 (and_parts (eqb x 58) (leads xs) f).0 in (omega arith, omega arith)) (or_cases (is_inner x) (eqb x 58 && leads xs) e)

@@ -1,8 +1,9 @@
 -- Bytes packed into numbers, and read back from them.
-use Rattle.std.proofs.Common.{◌≡◌, ℕ, zero, suc, ◌+◌, ◌-◌, ◌*◌, ◌/◌, ◌%◌, ◌^◌, ◌<◌, ◌≤◌, true, false, cond, ◌&&◌, eqb, List, [], ◌∷◌, length, get_or, drop, sym, refl, ap, ◌∙◌, ⊎_elim, le_of_suc-le-suc, add-zero, mod-eq_of_lt, zero-add, div-one, arith}
-use native.Mathlib.Nat.{zero-div, zero-mod, add-mul-mod_self_left}
-use Rattle.std.specs.List.{AllByRecursion}
-use Rattle.std.proofs.lemmas.Nat.{shr-shr}
+use Rattle.std.proofs.Common.{◌≡◌, ℕ, zero, suc, ◌+◌, ◌-◌, ◌*◌, ◌/◌, ◌%◌, ◌^◌, ◌<◌, ◌≤◌, Bool, true, false, cond, not, ◌&&◌, eqb, List, [], ◌∷◌, length, get_or, slice_index, drop, sym, refl, ap, ◌∙◌, ⊎_elim, le_of_suc-le-suc, add-zero, mod-eq_of_lt, zero-add, div-one, arith}
+use native.Mathlib.Nat.{pow-suc, zero-div, zero-mod, add-mul-mod_self_left}
+use Rattle.std.specs.List.{AllByRecursion, prefix_len, range_with_len}
+use Rattle.std.specs.Int.{w64, byte_at, bytes_low_first, from_le_bytes, to_le_bytes}
+use Rattle.std.proofs.lemmas.Nat.{shr-shr, pow-add}
 use Rattle.std.proofs.lemmas.List.{at_drop_more, at_drop_all, get_or_past, get_or-drop, ext_get_or}
 use Rattle.std.proofs.lemmas.Bool.{cases_lt, and_parts, and_from, eqb-true, eq-eqb, ne_eqb, cond_below, cond_above}
 use Rattle.text.specs.declared.names.Name.{Name}
@@ -25,10 +26,10 @@ packed_more n s bytes = ⊎_elim
 digit : (n j : ℕ) (bytes : List ℕ) → AllByRecursion Solid bytes → j < n → packed n bytes / 2 ^ (8 * j) % 256 ≡ get_or bytes j 0
 digit zero j bytes s h = absurd (omega arith)
 digit (suc n) j [] s h = ap (λ m. m % 256) (zero-div (2 ^ (8 * j))) ∙ zero-mod 256
-digit (suc n) zero (b ∷ bytes) s h = ap (λ m. m % 256) (div-one (b + 256 * packed n bytes)) ∙ add-mul-mod_self_left b 256 (packed n bytes) ∙ mod-eq_of_lt s.0.1
+digit (suc n) zero (b ∷ bytes) s h = ap (λ m. m % 256) (div-one (b + 256 * packed n bytes)) ∙ add-mul-mod_self_left b 256 (packed n bytes) ∙ mod-eq_of_lt (omega (arith, s.0.1))
 digit (suc n) (suc j) (b ∷ bytes) s h =
     let w = b + 256 * packed n bytes in
-    let less : b < 256 = s.0.1 in
+    let less : b < 256 = omega (arith, s.0.1) in
     let on : 8 * suc j ≡ 8 + 8 * j = omega arith in
     let rest : w / 256 ≡ packed n bytes = omega arith in
     ap (λ m. w / 2 ^ m % 256) on ∙ ap (λ m. m % 256) (sym (shr-shr w 8 (8 * j))) ∙ ap (λ m. m / 2 ^ (8 * j) % 256) rest ∙ digit n j bytes s.1 (le_of_suc-le-suc h)
@@ -114,3 +115,56 @@ tells_names m n = (same, λ e. ap (same_name m) (sym e) ∙ itself)
         let a = and_parts (eqb m.first n.first) (eqb m.second n.second && eqb m.third n.third) e in
         let b = and_parts (eqb m.second n.second) (eqb m.third n.third) a.1 in
         λ i. record { first = eqb-true m.first n.first a.0 i; second = eqb-true m.second n.second b.0 i; third = eqb-true m.third n.third b.1 i }
+
+-- a name has as many bytes as come before the first 0
+pub prefix_solid : (n : Name) (i k : ℕ) → prefix_len (λ m. not (eqb (byte_of n m) 0)) (range_with_len i k) ≡ solid_from n i k
+prefix_solid n i zero = refl
+prefix_solid n i (suc k) = by (eqb (byte_of n i) 0) (prefix_solid n (i + 1) k)
+  where
+    more : ℕ
+    more = prefix_len (λ m. not (eqb (byte_of n m) 0)) (range_with_len (i + 1) k)
+
+    by : (b : Bool) → more ≡ solid_from n (i + 1) k → cond (not b) (1 + more) 0 ≡ cond b 0 (suc (solid_from n (i + 1) k))
+    by true e = refl
+    by false e = omega (arith, e)
+
+-- eight bytes as the library makes a number of them
+pub packed_le : (bytes ys : List ℕ) → ((k : ℕ) → k < 8 → slice_index ys k ≡ get_or bytes k 0) → from_le_bytes w64 ys ≡ packed 8 bytes
+packed_le bytes ys at = omega (
+  arith,
+  at 0 (omega arith),
+  at 1 (omega arith),
+  at 2 (omega arith),
+  at 3 (omega arith),
+  at 4 (omega arith),
+  at 5 (omega arith),
+  at 6 (omega arith),
+  at 7 (omega arith),
+  packed_more 7 0 bytes,
+  packed_more 6 1 bytes,
+  packed_more 5 2 bytes,
+  packed_more 4 3 bytes,
+  packed_more 3 4 bytes,
+  packed_more 2 5 bytes,
+  packed_more 1 6 bytes,
+  packed_more 0 7 bytes,
+)
+
+power : (k : ℕ) → 256 ^ k ≡ 2 ^ (8 * k)
+power zero = refl
+power (suc k) =
+    let on : 8 * suc k ≡ 8 * k + 8 = omega arith in
+    pow-suc 256 k ∙ ap (λ m. m * 256) (power k) ∙ sym (pow-add 2 (8 * k) 8) ∙ ap (λ m. 2 ^ m) (sym on)
+
+byte_power : (n k : ℕ) → byte_at k n ≡ n / 2 ^ (8 * k) % 256
+byte_power n zero = ap (λ m. m % 256) (sym (div-one n))
+byte_power n (suc k) = ap (λ m. n / m % 256) (power (suc k))
+
+low_first : (n i m k : ℕ) → k < m → slice_index (bytes_low_first i m n) k ≡ byte_at (i + k) n
+low_first n i zero k h = absurd (omega arith)
+low_first n i (suc m) zero h = ap (λ j. byte_at j n) (omega arith)
+low_first n i (suc m) (suc k) h = low_first n (suc i) m k (omega (arith, h)) ∙ ap (λ j. byte_at j n) (omega arith)
+
+-- the byte at k of the eight that the library makes of a number
+pub le_byte : (n k : ℕ) → k < 8 → slice_index (to_le_bytes w64 n) k ≡ n / 2 ^ (8 * k) % 256
+le_byte n k h = low_first n 0 8 k h ∙ ap (λ j. byte_at j n) (zero-add k) ∙ byte_power n k

@@ -1,8 +1,10 @@
 -- A run of a text, byte by byte, and two lists of bytes side by side.
 use Rattle.std.proofs.Common.{◌≡◌, ℕ, zero, suc, ◌+◌, ◌-◌, ◌<◌, ◌≤◌, Bool, true, false, cond, ◌&&◌, ◌||◌, eqb, leb, ◌⊎◌, List, [], ◌∷◌, length, get_or, drop, sym, refl, ap, ◌∙◌, inl, inr, ⊎_elim, arith}
+use lib.Pointwise.{pointwise}
+use Rattle.std.specs.List.{range_with_len, prefix_len, list_any}
 use Rattle.std.proofs.lemmas.List.{drop_all, drop_more, at_drop_more, at_drop_all, get_or_past}
 use Rattle.std.proofs.lemmas.Bool.{cases_lt, false≢true, both_ways, and_right, and_parts, and_from, or_cases, or_left, or_right, eq-eqb, ne_eqb, eqb-true, leb-true, le-leb}
-use Rattle.text.specs.Words.{word_limit, is_start, is_inner, leads, goes_on, word_len, starts_word, is_word, same, may_stand, WordBytes, WordsByBytes, LongestRuns, SameIsEqual}
+use Rattle.text.specs.Words.{word_limit, is_start, is_inner, leads, goes_on, word_len, starts_word, is_word, same, is_one_of, may_stand, WordBytes, WordsByBytes, LongestRuns, SameIsEqual}
 
 -- a word at i goes on by the byte there, or by the one after it
 module _ (s : List ℕ) (i : ℕ) (h : i < length s) where
@@ -152,3 +154,29 @@ by_bytes s = (to, from)
     from w =
         let long : word_len s ≡ length s = whole s (λ k h. goes_by s k h (w.stands k h)) in
         and_from _ _ w.starts (and_from _ _ (eq-eqb (word_len s) (length s) long) (le-leb (length s) word_limit w.short))
+
+-- a run has as many places as it goes on for
+pub prefix_run : (s : List ℕ) (at n : ℕ) → length s ≤ at + n → prefix_len (λ i. goes_on (drop i s)) (range_with_len at n) ≡ word_len (drop at s)
+prefix_run s at zero h = sym (at_drop_all word_len s at (omega arith))
+prefix_run s at (suc n) h = by (goes_on (drop at s)) refl (prefix_run s (at + 1) n (omega (arith, h)))
+  where
+    more : ℕ
+    more = prefix_len (λ i. goes_on (drop i s)) (range_with_len (at + 1) n)
+
+    by : (b : Bool) → goes_on (drop at s) ≡ b → more ≡ word_len (drop (at + 1) s) → cond (goes_on (drop at s)) (1 + more) 0 ≡ word_len (drop at s)
+    by true e rest = ap (λ b. cond b (1 + more) 0) e ∙ omega (arith, rest, word_more s at e)
+    by false e rest = ap (λ b. cond b (1 + more) 0) e ∙ sym (word_stop (drop at s) e)
+
+eqb_swap : (x y : ℕ) → eqb x y ≡ eqb y x
+eqb_swap x y = grind arith
+
+-- bytes side by side, one way round and the other
+pub same_pointwise : (a b : List ℕ) → pointwise eqb a b ≡ same b a
+same_pointwise [] [] = refl
+same_pointwise [] (y ∷ b) = refl
+same_pointwise (x ∷ a) [] = refl
+same_pointwise (x ∷ a) (y ∷ b) = λ j. eqb_swap x y j && same_pointwise a b j
+
+pub any_is_one : (words : List (List ℕ)) (bytes : List ℕ) → list_any (λ w. pointwise eqb w bytes) words ≡ is_one_of words bytes
+any_is_one [] bytes = refl
+any_is_one (w ∷ words) bytes = λ j. same_pointwise w bytes j || any_is_one words bytes j

@@ -1,15 +1,18 @@
 -- A table of names: what it holds, and how one more name joins it.
-use Rattle.std.proofs.Common.{◌≡◌, ℕ, ◌+◌, ◌<◌, ◌≤◌, true, false, leb, List, length, get_or, drop, is_some, Some, None, Option, sym, refl, ap, ◌∙◌, arith}
-use Rattle.std.proofs.lemmas.List.{length-take-le, length_push, at_drop_more, at_drop_all}
-use Rattle.std.proofs.lemmas.Bool.{le-leb, lt-leb, leb-false, false≢true}
+use Rattle.std.proofs.Common.{◌≡◌, ℕ, ◌+◌, ◌<◌, ◌≤◌, T, true, false, leb, nat_lt, List, [], ◌∷◌, ◌++◌, Result, Ok, Err, is_ok, OnOk, OnErr, IfSome, subst, length, get_or, drop, is_some, Some, None, Option, sym, refl, ap, ◌∙◌, arith}
+use Rattle.std.proofs.lemmas.List.{length_push, at_drop_more, at_drop_all}
+use Rattle.std.proofs.lemmas.Bool.{le-leb, lt-leb, leb-false, ltb-true, false≢true}
 use Rattle.text.specs.declared.names.Name.{Name}
 use Rattle.text.specs.declared.numbering.Names.{Names}
 use Rattle.text.specs.Held.{held}
-use Rattle.text.specs.Numbering.{names_limit, number_of, join_one, join_all}
-use Rattle.text.proofs.Joins.{join_new, join_longer}
+use Rattle.lists.specs.declared.ListFull.{ListFull}
+use Rattle.text.specs.Numbering.{names_limit, number_of, all_different, join_one, join_all}
+use Rattle.text.specs.Names.{same_name}
+use Rattle.text.proofs.Picks.{within}
+use Rattle.text.proofs.Joins.{join_new, join_longer, push_different}
 
-pub held_length : (t : Names) → length (held t) ≡ t.count
-held_length t = length-take-le t.count t.names (omega (arith, t.whole, t.within))
+pub held_length : (t : Names) → length (held t) ≡ length t.list
+held_length t = refl
 
 pub not_some : {X : Type 0} (o : Option X) → is_some o ≡ false → o ≡ None
 not_some (Some x) e = absurd (false≢true (sym e))
@@ -38,3 +41,14 @@ module _ (xs names : List Name) (i : ℕ) (d : Name) (h : i < length names) wher
 
 pub join_end : (xs names : List Name) (i : ℕ) → length names ≤ i → join_all xs (drop i names) ≡ xs
 join_end xs names i h = at_drop_all (join_all xs) names i h
+
+-- one more name, where there is room for it
+pub push_whole : (t : Names) (n : Name) (r : Result (Unit {0}) ListFull) (list : List Name) → number_of (held t) n ≡ None → is_ok r ≡ nat_lt (length (held t)) names_limit →
+    OnOk r (list ≡ held t ++ (n ∷ [])) → OnErr r (list ≡ held t) → (length list ≤ names_limit) × T (all_different list)
+push_whole t n (Ok u) list new fits e f = (omega (arith, ap length e, length_push (held t) n, ltb-true (length (held t)) 64 (sym fits)), subst (λ (xs : List Name). T (all_different xs)) (sym e) (push_different (held t) n t.apart new))
+push_whole t n (Err x) list new fits e f = (omega (arith, ap length f, t.within), subst (λ (xs : List Name). T (all_different xs)) (sym f) t.apart)
+
+-- a number is below the limit
+pub number_below : (t : Names) (n : Name) (o : Option ℕ) → o ≡ number_of (held t) n → IfSome o (λ i. i < names_limit)
+number_below t n None e = tt
+number_below t n (Some i) e = omega (arith, within (λ m. same_name m n) (held t) i (sym e), t.within)

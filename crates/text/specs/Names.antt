@@ -1,5 +1,6 @@
 -- A word as three numbers of 64 bits, with eight bytes to a number.
-use Rattle.std.specs.Prelude.{◌≡◌, ℕ, zero, suc, ◌+◌, ◌*◌, ◌/◌, ◌%◌, ◌^◌, Bool, true, cond, ◌&&◌, T, List, [], ◌∷◌, length, drop, Some, None, Option, ◌==◌, nat_lt, slice_index}
+use Rattle.std.specs.Prelude.{◌≡◌, ℕ, zero, suc, ◌+◌, ◌*◌, ◌/◌, ◌%◌, ◌^◌, Bool, true, cond, ◌&&◌, T, List, [], ◌∷◌, length, drop, Some, None, Option, ◌==◌, nat_lt, slice_index, map, encode_utf8_all}
+use Rattle.std.specs.List.{range_with_len}
 use Rattle.text.specs.Words.{word_limit, is_word, is_name}
 use Rattle.text.specs.declared.names.Name.{Name}
 
@@ -38,9 +39,17 @@ solid_from n i (suc k) = cond (byte_of n i == 0) 0 (suc (solid_from n (i + 1) k)
 abbrev pub length_of : Name → ℕ
 length_of n = solid_from n 0 word_limit
 
+-- the text that a name is shown as: each of its bytes as a character
+abbrev pub text_of : Name → List ℕ
+text_of n = encode_utf8_all (map (byte_of n) (range_with_len 0 (length_of n)))
+
 -- the bytes of a word can be read back from its name, with 0 past the end
 abbrev pub ReadsBack : Type 0
 ReadsBack = (v : List ℕ) → T (is_word v) → (length_of (name_of v) ≡ length v) × ((i : ℕ) → byte_of (name_of v) i ≡ slice_index v i)
+
+-- the name of a word is shown as that word
+abbrev pub ShowsWords : Type 0
+ShowsWords = (v : List ℕ) → T (is_word v) → text_of (name_of v) ≡ v
 
 -- two words have one name exactly if they are one word
 abbrev pub TellsWords : Type 0

@@ -19,7 +19,7 @@ impl Named for Name {
     ghost called = { λ n. n };
 
     fn is_called(&self, name: &Name) -> bool {
-        self.same(name)
+        self == name
     }
 }
 
@@ -27,17 +27,10 @@ impl Named for Name {
 pub fn find<T: Named>(records: &[T], name: &Name) -> Option<usize>
     ensures { result ≡ latest (λ x. same_name (T.Named.called x) name.now) records.now }
 {
-    for i in (0..records.len()).rev() {
-        if records[i].is_called(name) {
-            return Some(i);
-        }
-    }
-    None
+    records.iter().rposition(|record| record.is_called(name))
 }
 
 // What `find` finds, for records of any one type: the highest index that passes, or nothing exactly if none does.
-pub fn find_is_highest<T: Named>(_records: &[T]) -> u8
+pub fn find_is_highest<T: Named>()
     ensures { FindsHighest T }
-{
-    0
-}
+{}

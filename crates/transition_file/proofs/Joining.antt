@@ -5,8 +5,7 @@ use Rattle.std.proofs.lemmas.Bool.{leb-true, leb-false}
 use Rattle.text.proofs.Joins.{join_longer}
 use Rattle.text.specs.Numbering.{names_limit, join_one, join_all}
 use Rattle.text.specs.declared.names.Name.{Name}
-use Rattle.files.specs.Lines.{Row, line_at}
-use Rattle.files.proofs.Tiling.{rows_past, rows_at, rows_none}
+use Rattle.files.specs.Lines.{Row}
 use Rattle.transition_file.specs.TransitionPart.{numbered, names_in_line, names_in_rows, join_if_few}
 
 pub join_append : (known a b : List Name) → join_all known (a ++ b) ≡ join_all (join_all known a) b
@@ -36,20 +35,17 @@ module _ (known names : List Name) where
       go false e h = leb-false (length (join_all known names)) names_limit e
 
 -- one line more
-module _ (file : List ℕ) (at : ℕ) (known : List Name) where
-  pub lines_none : length known ≤ names_limit → None ≡ line_at file at → join_if_few known (names_in_rows (rows_past file at)) ≡ Some known
-  lines_none few e = ap (λ rs. join_if_few known (names_in_rows rs)) (rows_none file at e) ∙ few_join known [] few
+module _ (known : List Name) (rs : List Row) where
+  module _ (r : Row) (rest : List Row) (e : rs ≡ r ∷ rest) where
+    split : join_all known (names_in_rows rs) ≡ join_all (join_all known (names_in_line r.text)) (names_in_rows rest)
+    split = ap (λ rs. join_all known (names_in_rows rs)) e ∙ join_append known (names_in_line r.text) (names_in_rows rest)
 
-  module _ (r : Row) (after : ℕ) (e : Some (r, after) ≡ line_at file at) where
-    split : join_all known (names_in_rows (rows_past file at)) ≡ join_all (join_all known (names_in_line r.text)) (names_in_rows (rows_past file after))
-    split = ap (λ rs. join_all known (names_in_rows rs)) (rows_at file at r after (sym e)) ∙ join_append known (names_in_line r.text) (names_in_rows (rows_past file after))
+    pub line_full : None ≡ join_if_few known (names_in_line r.text) → join_if_few known (names_in_rows rs) ≡ None
+    line_full h = many_stop known (names_in_rows rs)
+        (omega (arith, many_if known (names_in_line r.text) h, ap length split, join_longer (join_all known (names_in_line r.text)) (names_in_rows rest)))
 
-    pub line_full : None ≡ join_if_few known (names_in_line r.text) → join_if_few known (names_in_rows (rows_past file at)) ≡ None
-    line_full h = many_stop known (names_in_rows (rows_past file at))
-        (omega (arith, many_if known (names_in_line r.text) h, ap length split, join_longer (join_all known (names_in_line r.text)) (names_in_rows (rows_past file after))))
-
-    pub line_joined : (ns : List Name) → Some ns ≡ join_if_few known (names_in_line r.text) → join_if_few known (names_in_rows (rows_past file at)) ≡ join_if_few ns (names_in_rows (rows_past file after))
+    pub line_joined : (ns : List Name) → Some ns ≡ join_if_few known (names_in_line r.text) → join_if_few known (names_in_rows rs) ≡ join_if_few ns (names_in_rows rest)
     line_joined ns h =
-        let same : join_all known (names_in_rows (rows_past file at)) ≡ join_all ns (names_in_rows (rows_past file after)) =
-        split ∙ ap (λ ms. join_all ms (names_in_rows (rows_past file after))) (sym (few_if known (names_in_line r.text) ns h).0) in
+        let same : join_all known (names_in_rows rs) ≡ join_all ns (names_in_rows rest) =
+        split ∙ ap (λ ms. join_all ms (names_in_rows rest)) (sym (few_if known (names_in_line r.text) ns h).0) in
         ap (λ ms. cond (numbered ms) (Some ms) None) same

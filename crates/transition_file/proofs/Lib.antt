@@ -1,4 +1,3 @@
 pub mod Scanning
 pub mod Joining
-pub mod Chain
 pub mod Written

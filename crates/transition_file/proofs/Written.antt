@@ -1,12 +1,8 @@
 -- Values written over the first places, one by one. Assumes nothing.
-use Rattle.std.proofs.Common.{◌≡◌, ℕ, zero, suc, ◌+◌, ◌<◌, ◌≤◌, List, [], ◌∷◌, map, length, take, drop, set, Some, None, sym, refl, ap, ◌∙◌, add-one, arith}
-use Rattle.files.specs.Lines.{Row, line_at}
-use Rattle.files.proofs.Tiling.{rows_past, rows_at, rows_none}
-use Rattle.systems.specs.declared.transition.Transition.{Transition}
+use Rattle.std.proofs.Common.{◌≡◌, ℕ, zero, suc, ◌+◌, ◌<◌, ◌≤◌, List, [], ◌∷◌, map, length, take, drop, set, sym, refl, ap, ◌∙◌, add-one, arith}
 use Rattle.text.specs.declared.names.Name.{Name}
-use Rattle.transition_file.specs.TransitionPart.{arrow_in, arrows_of, body, body_start}
+use Rattle.transition_file.specs.TransitionPart.{arrow_in, arrows_of, body}
 use Rattle.transition_file.specs.Records.{record_in, line_record, written}
-use Rattle.transition_file.proofs.Scanning.{body_rows}
 
 pub written_none : {X : Type 0} (xs : List X) → written [] xs ≡ xs
 written_none [] = refl
@@ -40,29 +36,30 @@ map_map : {X Y Z : Type 0} (f : X → Y) (g : Y → Z) (xs : List X) → map g (
 map_map f g [] = refl
 map_map f g (x ∷ xs) = ap (λ ys. g (f x) ∷ ys) (map_map f g xs)
 
--- the first k of the file's records are written, and the lines of the others begin at the place `at`
-pub record Sofar (file : List ℕ) (known : List Name) (before now : List Transition) (k at : ℕ) : Type 0 where
-  pub done : now ≡ written (take k (map (record_in known) (arrows_of file))) before
-  pub left : map (λ r. line_record known r.text) (rows_past file at) ≡ drop k (map (record_in known) (arrows_of file))
+-- the first k values are written, and the others are left
+pub record Sofar {X : Type 0} (values before now : List X) (k : ℕ) (rest : List X) : Type 0 where
+  pub done : now ≡ written (take k values) before
+  pub left : rest ≡ drop k values
 
-module _ (file : List ℕ) (known : List Name) where
-  pub begin : (before : List Transition) (from : ℕ) → from ≡ body_start file → Sofar file known before before 0 from
-  begin before from e = record {
-    done = sym (written_none before);
-    left = ap (map (λ r. line_record known r.text)) (ap (rows_past file) e ∙ body_rows file) ∙ sym (map_map (λ r. arrow_in r.text) (record_in known) (body file));
-  }
+module _ {X : Type 0} (values before : List X) where
+  pub begin : (rest : List X) → rest ≡ values → Sofar values before before 0 rest
+  begin rest e = record { done = sym (written_none before); left = e }
 
-  module _ (before now : List Transition) (k at : ℕ) (f : Sofar file known before now k at) where
-    pub no_more : None ≡ line_at file at → now ≡ written (map (record_in known) (arrows_of file)) before
-    no_more e = f.done ∙ ap (λ vs. written vs before) (take_none _ k (sym f.left ∙ ap (map (λ r. line_record known r.text)) (rows_none file at e)))
+  module _ (now : List X) (k : ℕ) (rest : List X) (f : Sofar values before now k rest) where
+    pub no_more : rest ≡ [] → now ≡ written values before
+    no_more e = f.done ∙ ap (λ vs. written vs before) (take_none values k (sym f.left ∙ e))
 
-    pub full : length before ≤ k → now ≡ written (map (record_in known) (arrows_of file)) before
-    full h = f.done ∙ written_all _ before k h
+    pub full : length before ≤ k → now ≡ written values before
+    full h = f.done ∙ written_all values before k h
 
-    pub one_more : (r : Row) (after : ℕ) → Some (r, after) ≡ line_at file at → k < length before → Sofar file known before (set now k (line_record known r.text)) (k + 1) after
-    one_more r after e h =
-        let here = sym f.left ∙ ap (map (λ r. line_record known r.text)) (rows_at file at r after (sym e)) in
+    pub one_more : (v : X) (vs : List X) → rest ≡ v ∷ vs → k < length before → Sofar values before (set now k v) (k + 1) vs
+    one_more v vs e h =
+        let here = sym f.left ∙ e in
         record {
-          done = ap (λ xs. set xs k (line_record known r.text)) f.done ∙ written_more _ before k _ _ h here ∙ ap (λ n. written (take n (map (record_in known) (arrows_of file))) before) (sym (add-one k));
-          left = sym (drop_next _ k _ _ here) ∙ ap (λ n. drop n (map (record_in known) (arrows_of file))) (sym (add-one k));
+          done = ap (λ xs. set xs k v) f.done ∙ written_more values before k v vs h here ∙ ap (λ n. written (take n values) before) (sym (add-one k));
+          left = sym (drop_next values k v vs here) ∙ ap (λ n. drop n values) (sym (add-one k));
         }
+
+-- the records of the lines are those of the transitions
+pub records_are : (known : List Name) (file : List ℕ) → map (λ r. line_record known r.text) (body file) ≡ map (record_in known) (arrows_of file)
+records_are known file = sym (map_map (λ r. arrow_in r.text) (record_in known) (body file))

@@ -1,16 +1,10 @@
 -- What the reader of the transition file gives. Assumes nothing.
 use Rattle.std.specs.Prelude.{◌≡◌, ℕ, List, Ok, Err, Result}
 use Rattle.files.specs.declared.fault.Fault.{Fault}
-use Rattle.layouts.specs.Layouts.{Arrow}
-use Rattle.layouts.specs.declared.transitions.TransitionLine.{TransitionLine}
 use Rattle.text.specs.Held.{held}
 use Rattle.text.specs.declared.names.Name.{Name}
 use Rattle.transition_file.specs.TransitionPart.{transition_part, events_then}
 use Rattle.transition_file.specs.declared.reading.TransitionsRead.{TransitionsRead}
-
--- the transition that a line was read as
-abbrev pub arrow_of : TransitionLine → Arrow
-arrow_of t = record { source = t.source; label = t.label.now; target = t.target }
 
 -- the header and the names of events, or the first question that gets a no
 abbrev pub ReadAs : List ℕ → List Name → Result TransitionsRead Fault → Type 0

@@ -1,58 +1,40 @@
-// What is asked of the line of a transition.
-ghost use Rattle.std.specs.Prelude.{◌≡◌, ◌<◌, Bool};
-ghost use Rattle.layouts.specs.Layouts.{Arrow};
-ghost use Rattle.transition_file.specs.TransitionPart.{numbers_fit, lawful_label, joins_states};
-ghost use Rattle.transition_file.specs.Found.{arrow_of};
+// What is asked of the header, and of the line of a transition.
+ghost use Rattle.std.specs.Prelude.{◌≡◌};
+ghost use Rattle.files.specs.Lines.{row_of};
+ghost use Rattle.transition_file.specs.TransitionPart.{numbers_fit, is_arrow, on_arrow, lawful_label, joins_states};
 
 use contents::label::reading::read_label;
-use layouts::transitions::{Header, TransitionLine};
+use files::lines::Line;
+use layouts::transitions::{Header, read_transition};
+use systems::limits::{MAX_MOVES, MAX_STATES};
 
-// The most states of a table.
-const MAX_STATES: u16 = 256;
-
-// The most transitions of a file.
-const MAX_TRANSITIONS: u16 = 1024;
-
-// Whether the numbers of the header are in their ranges.
+// Whether the numbers of the header are in their ranges: all transitions may leave one state.
 pub(crate) fn numbers_fit(h: &Header) -> bool
     ensures { result ≡ numbers_fit h.now }
 {
     1 <= h.states
-        && h.states <= MAX_STATES
-        && h.transitions <= MAX_TRANSITIONS
+        && usize::from(h.states) <= MAX_STATES
+        && usize::from(h.transitions) <= MAX_MOVES
         && h.initial < h.states
 }
 
-// A question that is put to every transition of the file.
-pub(crate) trait Question {
-    ghost asks: { Self → Arrow → Bool };
-
-    fn ask(&self, t: &TransitionLine<'_>) -> bool
-        ensures { result ≡ asks self.now (arrow_of t.now) };
+// Whether the line is ended and has a transition's layout.
+pub(crate) fn is_arrow(line: &Line<'_>) -> bool
+    ensures { result ≡ is_arrow (row_of line.now) }
+{
+    line.ended && read_transition(line.text).is_ok()
 }
 
-// Is the label lawful?
-#[derive(Clone, Copy)]
-pub(crate) struct LabelLawful;
-
-impl Question for LabelLawful {
-    ghost asks = { λ _. lawful_label };
-
-    fn ask(&self, t: &TransitionLine<'_>) -> bool {
-        read_label(t.label).is_some()
-    }
+// Whether the label is lawful.
+pub(crate) fn has_lawful_label(line: &Line<'_>) -> bool
+    ensures { result ≡ on_arrow lawful_label (row_of line.now) }
+{
+    read_transition(line.text).is_ok_and(|t| read_label(t.label).is_some())
 }
 
-// Does the transition join two of so many states?
-#[derive(Clone, Copy)]
-pub(crate) struct StatesBelow {
-    pub(crate) states: u16,
-}
-
-impl Question for StatesBelow {
-    ghost asks = { λ q. joins_states q.states };
-
-    fn ask(&self, t: &TransitionLine<'_>) -> bool {
-        t.source < self.states && t.target < self.states
-    }
+// Whether the transition joins two of so many states.
+pub(crate) fn joins_states(line: &Line<'_>, states: u16) -> bool
+    ensures { result ≡ on_arrow (joins_states states) (row_of line.now) }
+{
+    read_transition(line.text).is_ok_and(|t| t.source < states && t.target < states)
 }

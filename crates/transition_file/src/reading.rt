@@ -4,9 +4,9 @@ ghost use Rattle.text.specs.Held.{held};
 ghost use Rattle.transition_file.specs.TransitionPart.{short};
 ghost use Rattle.transition_file.specs.Found.{ReadAs};
 
-use crate::first::{body_start, first_header};
-use crate::questions::{LabelLawful, StatesBelow, numbers_fit};
-use crate::scans::{first_failing, join_events, misplaced_line};
+use crate::first::first_header;
+use crate::questions::numbers_fit;
+use crate::scans::{join_events, misplaced_line, unknown_state, unlawful_label};
 use files::fault::Fault;
 use layouts::transitions::Header;
 use text::numbering::Names;
@@ -15,7 +15,7 @@ use text::numbering::Names;
 pub const FILE_LIMIT: usize = 65_535;
 
 // The header, and the names of events with those of the file behind them.
-#[derive(Clone, Copy)]
+#[derive(Clone, Copy, Debug, PartialEq, Eq)]
 pub struct TransitionsRead {
     pub header: Header,
     pub events: Names,
@@ -41,21 +41,15 @@ pub fn read_transitions(file: &[u8], known: &Names) -> Result<TransitionsRead, F
     if !numbers_fit(&header) {
         return Err(Fault::HeaderNumbers);
     }
-    let from = body_start(file);
-    if let Some(start) = misplaced_line(file, from, header.transitions) {
+    if let Some(start) = misplaced_line(file, header.transitions) {
         return Err(Fault::TransitionLine { start });
     }
-    if let Some(start) = first_failing(file, from, &LabelLawful) {
+    if let Some(start) = unlawful_label(file) {
         return Err(Fault::TransitionLabel { start });
     }
-    let below = StatesBelow {
-        states: header.states,
-    };
-    if let Some(start) = first_failing(file, from, &below) {
+    if let Some(start) = unknown_state(file, header.states) {
         return Err(Fault::TransitionStates { start });
     }
-    match join_events(file, from, *known) {
-        Some(events) => Ok(TransitionsRead { header, events }),
-        None => Err(Fault::TooManyEvents),
-    }
+    let events = join_events(file, *known).ok_or(Fault::TooManyEvents)?;
+    Ok(TransitionsRead { header, events })
 }

@@ -1,52 +1,49 @@
 // Passes over the lines of transitions.
-ghost use Rattle.std.specs.Prelude.{◌≡◌, length, drop};
+ghost use Rattle.std.specs.Prelude.{◌≡◌, length};
 ghost use Rattle.std.specs.Option.{option_map};
-ghost use Rattle.files.specs.Lines.{rows_from};
 ghost use Rattle.text.specs.Held.{held};
-ghost use Rattle.transition_file.specs.TransitionPart.{misplaced, failing, on_arrow, join_if_few, names_in_line, names_in_rows};
+ghost use Rattle.transition_file.specs.TransitionPart.{misplaced, failing, on_arrow, lawful_label, joins_states, join_if_few, names_in_line, names_in_rows, body};
 
-use crate::questions::Question;
+use crate::first::body_lines;
+use crate::questions::{has_lawful_label, is_arrow, joins_states};
 use contents::label::reading::read_label;
-use files::lines::line_at;
 use layouts::transitions::read_transition;
 use text::numbering::Names;
 
-// Where the first line at fault starts, if there are not exactly `count` lines with a transition's layout from `at` on.
-pub(crate) fn misplaced_line(file: &[u8], from: usize, count: u16) -> Option<usize>
-    ensures { result ≡ misplaced count (length file.now) (rows_from from (drop from file.now)) }
+// Where the first line at fault starts, if there are not exactly `count` lines with a transition's layout.
+pub(crate) fn misplaced_line(file: &[u8], count: u16) -> Option<usize>
+    ensures { result ≡ misplaced count (length file.now) (body file.now) }
 {
-    let mut at = from;
-    for turn in 0..count {
-        let Some(line) = line_at(file, at) else {
+    let mut lines = body_lines(file);
+    // The count and the lines go on together, and a chain would not tell which of them ends first.
+    for _turn in 0..count {
+        let Some(line) = lines.next() else {
             return Some(file.len());
         };
-        if !line.ended || read_transition(line.text).is_err() {
+        if !is_arrow(&line) {
             return Some(line.start);
         }
-        at = line.after;
     }
-    match line_at(file, at) {
-        Some(line) => Some(line.start),
-        None => None,
-    }
+    lines.next().map(|line| line.start)
 }
 
-// Where the first line starts, from `from` on, whose transition gets a no.
-pub(crate) fn first_failing<Q: Question>(file: &[u8], from: usize, question: &Q) -> Option<usize>
-    ensures { result ≡ failing (on_arrow (Q.Question.asks question.now)) (rows_from from (drop from file.now)) }
+// Where the first line starts whose label is not lawful. Like the next one, a chain of one line: with the test as a parameter, the clause
+// about what it answers would be longer than both.
+pub(crate) fn unlawful_label(file: &[u8]) -> Option<usize>
+    ensures { result ≡ failing (on_arrow lawful_label) (body file.now) }
 {
-    let mut at = from;
-    while let Some(line) = line_at(file, at) {
-        let passes = match read_transition(line.text) {
-            Ok(t) => question.ask(&t),
-            Err(_) => false,
-        };
-        if !passes {
-            return Some(line.start);
-        }
-        at = line.after;
-    }
-    None
+    body_lines(file)
+        .find(|line| !has_lawful_label(line))
+        .map(|line| line.start)
+}
+
+// Where the first line starts that joins a state that there is not.
+pub(crate) fn unknown_state(file: &[u8], states: u16) -> Option<usize>
+    ensures { result ≡ failing (on_arrow (joins_states states)) (body file.now) }
+{
+    body_lines(file)
+        .find(|line| !joins_states(line, states))
+        .map(|line| line.start)
 }
 
 // The names with those in the line's label behind them; nothing if there are too many.
@@ -60,22 +57,17 @@ fn join_line(known: Names, line: &[u8]) -> Option<Names>
         return Some(known);
     };
     let mut names = known;
-    if names.join_all(label.names()) {
-        Some(names)
-    } else {
-        None
-    }
+    names.join_all(label.names()).ok()?;
+    Some(names)
 }
 
-// The names with those in the labels from `from` on behind them; nothing if there are too many.
-pub(crate) fn join_events(file: &[u8], from: usize, known: Names) -> Option<Names>
-    ensures { option_map held result ≡ join_if_few (held known) (names_in_rows (rows_from from (drop from file.now))) }
+// The names with those in the labels behind them; nothing if there are too many. By `try_fold` it was tried: what it returns stays open.
+pub(crate) fn join_events(file: &[u8], known: Names) -> Option<Names>
+    ensures { option_map held result ≡ join_if_few (held known) (names_in_rows (body file.now)) }
 {
     let mut names = known;
-    let mut at = from;
-    while let Some(line) = line_at(file, at) {
+    for line in body_lines(file) {
         names = join_line(names, line.text)?;
-        at = line.after;
     }
     Some(names)
 }

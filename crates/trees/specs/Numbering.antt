@@ -2,8 +2,7 @@
 use Rattle.std.specs.Prelude.{ℕ, ◌+◌, Bool, true, false, not, List, [], ◌∷◌, ◌++◌, length, Some, None, Option, slice_index}
 use Rattle.logic.specs.declared.events.EventFormula.{EventFormula}
 use Rattle.logic.specs.declared.events.EventFormula.TheVariants as entry
-use Rattle.logic.specs.declared.nodes.Guard.{Guard}
-use Rattle.logic.specs.declared.nodes.Guard.TheVariants.{Any, By}
+use Rattle.logic.specs.Guards.{Guard}
 use Rattle.logic.specs.declared.nodes.Kind.{Kind}
 use Rattle.logic.specs.declared.nodes.Kind.TheVariants as kind
 use Rattle.logic.specs.declared.nodes.Node.{Node}
@@ -32,8 +31,8 @@ event_entries (either_events a b) m =
 
 -- the moves that are meant, where the entries are numbered from m on
 abbrev pub guard_at : Option (EventTree ℕ) → ℕ → Guard
-guard_at None m = Any
-guard_at (Some t) m = By (m + events_inner t)
+guard_at None m = None
+guard_at (Some t) m = Some (m + events_inner t)
 
 abbrev pub guard_entries : Option (EventTree ℕ) → ℕ → List EventFormula
 guard_entries None m = []

@@ -3,8 +3,7 @@ use Rattle.std.specs.Prelude.{◌≡◌, ℕ, zero, suc, ◌<◌, true, false, T
 use Rattle.std.specs.List.{slice_get}
 use Rattle.logic.specs.declared.events.EventFormula.{EventFormula}
 use Rattle.logic.specs.declared.events.EventFormula.TheVariants as entry
-use Rattle.logic.specs.declared.nodes.Guard.{Guard}
-use Rattle.logic.specs.declared.nodes.Guard.TheVariants.{Any, By}
+use Rattle.logic.specs.Guards.{Guard}
 use Rattle.logic.specs.declared.nodes.Kind.{Kind}
 use Rattle.logic.specs.declared.nodes.Kind.TheVariants as kind
 use Rattle.logic.specs.declared.nodes.Node.{Node}
@@ -32,8 +31,8 @@ abbrev pub event_tree_at : List EventFormula → ℕ → EventTree ℕ
 event_tree_at entries k = event_tree_in (suc k) entries k
 
 abbrev pub guard_tree : List EventFormula → Guard → Option (EventTree ℕ)
-guard_tree entries Any = None
-guard_tree entries (By k) = Some (event_tree_at entries k)
+guard_tree entries None = None
+guard_tree entries (Some k) = Some (event_tree_at entries k)
 
 -- a node over the trees of its parts; `place` is the depth of a binder
 abbrev pub tree_of : List EventFormula → (ℕ → ℕ) → Kind → (ℕ → Term) → Term
@@ -79,15 +78,15 @@ bare_kind (kind.Proposition p) = kind.Proposition p
 bare_kind (kind.Not a) = kind.Not a
 bare_kind (kind.And a b) = kind.And a b
 bare_kind (kind.Or a b) = kind.Or a b
-bare_kind (kind.Diamond x a) = kind.Diamond Any a
-bare_kind (kind.BoxAll x a) = kind.BoxAll Any a
-bare_kind (kind.AllNext x a) = kind.AllNext Any a
+bare_kind (kind.Diamond x a) = kind.Diamond None a
+bare_kind (kind.BoxAll x a) = kind.BoxAll None a
+bare_kind (kind.AllNext x a) = kind.AllNext None a
 bare_kind (kind.Eventually a) = kind.Eventually a
 bare_kind (kind.Always a) = kind.Always a
-bare_kind (kind.ExistsUntil a x b) = kind.ExistsUntil a Any b
-bare_kind (kind.AllUntil a x b) = kind.AllUntil a Any b
-bare_kind (kind.ExistsUntilBy a x y b) = kind.ExistsUntilBy a Any Any b
-bare_kind (kind.AllUntilBy a x y b) = kind.AllUntilBy a Any Any b
+bare_kind (kind.ExistsUntil a x b) = kind.ExistsUntil a None b
+bare_kind (kind.AllUntil a x b) = kind.AllUntil a None b
+bare_kind (kind.ExistsUntilBy a x y b) = kind.ExistsUntilBy a None None b
+bare_kind (kind.AllUntilBy a x y b) = kind.AllUntilBy a None None b
 bare_kind (kind.Min a) = kind.Min a
 bare_kind (kind.Max a) = kind.Max a
 bare_kind (kind.Variable b) = kind.Variable b

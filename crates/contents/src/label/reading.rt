@@ -4,17 +4,16 @@ ghost use Rattle.std.specs.Option.{option_map};
 ghost use Rattle.contents.specs.Labels.{label_names};
 ghost use Rattle.contents.specs.Labelled.{labelled};
 
-use super::{LABEL_LIMIT, Label};
-use layouts::pieces::byte_from;
+use super::Label;
+use lists::FixedList;
 use text::names::Name;
-use text::words::same_bytes;
 
 impl Label {
     // The names in order.
     pub fn names(&self) -> &[Name]
         ensures { result.now ≡ labelled self.now }
     {
-        &self.names[0..self.count]
+        self.names.as_slice()
     }
 }
 
@@ -22,21 +21,12 @@ impl Label {
 pub fn read_label(label: &[u8]) -> Option<Label>
     ensures { option_map labelled result ≡ label_names label.now }
 {
-    let mut names = [Name::blank(); LABEL_LIMIT];
-    if same_bytes(label, b"i") {
-        return Some(Label { names, count: 0 });
+    let mut names = FixedList::new();
+    if label == b"i".as_slice() {
+        return Some(Label { names });
     }
-    let mut at = 0;
-    for count in 0..LABEL_LIMIT {
-        let end = byte_from(label, at, b';');
-        names[count] = Name::new(&label[at..end])?;
-        if end == label.len() {
-            return Some(Label {
-                names,
-                count: count + 1,
-            });
-        }
-        at = end + 1;
+    for piece in label.split(|b| *b == b';') {
+        names.push(Name::new(piece)?).ok()?;
     }
-    None
+    Some(Label { names })
 }

@@ -1,53 +1,48 @@
 // How nodes join a draft.
-ghost use Rattle.std.specs.Prelude.{◌≡◌, ◌<◌};
-ghost use Rattle.logic.specs.Limits.{max_nodes};
-ghost use Rattle.drafts.specs.Drafts.{no_nodes, store_node, add_node};
+ghost use Rattle.std.specs.Prelude.{◌≡◌};
+ghost use Rattle.drafts.specs.Drafts.{no_nodes, add_node};
 ghost use Rattle.drafts.specs.DraftsHeld.{drafted};
 
 use super::Draft;
 use crate::entries::EntryDraft;
+use lists::FixedList;
 use logic::limits::MAX_NODES;
-use logic::nodes::{Kind, Node};
+use logic::nodes::Node;
 
 impl Draft {
     // Nothing read yet.
     pub fn new() -> Self
         ensures { drafted result ≡ no_nodes }
     {
-        let blank = Node {
-            kind: Kind::False,
-            depth: 0,
-            sign: true,
-        };
         Draft {
-            nodes: [blank; MAX_NODES],
-            count: 0,
+            nodes: FixedList::new(),
             entries: EntryDraft::new(),
+            too_long: false,
             too_deep: false,
             unknown: false,
             odd: false,
         }
     }
 
-    // Stores the node in the next place.
-    fn store(&mut self, node: Node)
-        requires { self.old.count < max_nodes }
-        ensures { drafted self.new ≡ store_node node (drafted self.old) }
+    // The number of the next node; one more than any there may be, where there were too many.
+    fn next_number(&self) -> u8
+        ensures { result ≡ (drafted self.now).count }
     {
-        self.nodes[self.count] = node;
-        self.count += 1;
+        if self.too_long {
+            MAX_NODES as u8 + 1
+        } else {
+            self.nodes.len() as u8
+        }
     }
 
-    // One node more, and its number; where there is no room for it, it is only counted.
+    // One node more, and its number; where there is no room for it, that is only noted.
     pub fn push(&mut self, node: Node) -> u8
-        ensures number { result ≡ self.old.count }
+        ensures number { result ≡ (drafted self.old).count }
         ensures added { drafted self.new ≡ add_node node (drafted self.old) }
     {
-        let number = self.count as u8;
-        if self.count < MAX_NODES {
-            self.store(node);
-        } else {
-            self.count = MAX_NODES + 1;
+        let number = self.next_number();
+        if self.nodes.push(node).is_err() {
+            self.too_long = true;
         }
         number
     }

@@ -1,12 +1,12 @@
 // How entries join a draft.
-ghost use Rattle.std.specs.Prelude.{◌≡◌, ◌<◌, length};
+ghost use Rattle.std.specs.Prelude.{◌≡◌, length};
 ghost use Rattle.std.specs.List.{slice_get};
-ghost use Rattle.logic.specs.Limits.{max_entries};
 ghost use Rattle.text.specs.Held.{held};
-ghost use Rattle.drafts.specs.Entries.{no_entries, store_entry, add_entry, add_event, drop_last, settle_guard, is_true_at};
+ghost use Rattle.drafts.specs.Entries.{no_entries, add_entry, add_event, drop_last, settle_guard, is_true_at};
 ghost use Rattle.drafts.specs.EntriesHeld.{entries_read};
 
 use super::EntryDraft;
+use lists::FixedList;
 use logic::events::EventFormula;
 use logic::limits::MAX_ENTRIES;
 use logic::nodes::Guard;
@@ -19,31 +19,21 @@ impl EntryDraft {
         ensures { entries_read result ≡ no_entries }
     {
         EntryDraft {
-            entries: [EventFormula::False; MAX_ENTRIES],
-            used: 0,
+            list: FixedList::new(),
             written: 0,
             unknown: false,
         }
     }
 
-    // Stores the entry in the next place.
-    fn store(&mut self, entry: EventFormula)
-        requires { self.old.written < max_entries }
-        ensures { entries_read self.new ≡ store_entry entry (entries_read self.old) }
-    {
-        self.entries[self.used] = entry;
-        self.used += 1;
-        self.written += 1;
-    }
-
-    // One entry more, and its number; where there is no room for it, it is only counted.
+    // One entry more, and its number; where too many were written, it is only counted.
     pub fn push(&mut self, entry: EventFormula) -> u8
         ensures number { result ≡ length (entries_read self.old).list }
         ensures added { entries_read self.new ≡ add_entry entry (entries_read self.old) }
     {
-        let number = self.used as u8;
+        let number = self.list.len() as u8;
         if self.written < MAX_ENTRIES {
-            self.store(entry);
+            self.list.push(entry).unwrap();
+            self.written += 1;
         } else {
             self.written = MAX_ENTRIES + 1;
         }
@@ -68,31 +58,21 @@ impl EntryDraft {
     fn get(&self, number: u8) -> Option<EventFormula>
         ensures { result ≡ slice_get (entries_read self.now).list number }
     {
-        let place = number as usize;
-        if place < self.used {
-            Some(self.entries[place])
-        } else {
-            None
-        }
+        self.list.as_slice().get(usize::from(number)).copied()
     }
 
     // Whether the entry with the number is `true`.
     fn is_true(&self, number: u8) -> bool
         ensures { result ≡ is_true_at (entries_read self.now).list number }
     {
-        match self.get(number) {
-            Some(EventFormula::True) => true,
-            _ => false,
-        }
+        matches!(self.get(number), Some(EventFormula::True))
     }
 
     // Lets the last entry go.
     fn drop_last(&mut self)
         ensures { entries_read self.new ≡ drop_last (entries_read self.old) }
     {
-        if self.used > 0 {
-            self.used -= 1;
-        }
+        let _ = self.list.pop();
     }
 
     // The guard that the event formula with this number is: one that is just `true` is as good as none, and its entry goes.
@@ -102,9 +82,9 @@ impl EntryDraft {
     {
         if self.is_true(number) {
             self.drop_last();
-            Guard::Any
+            None
         } else {
-            Guard::By(number)
+            Some(number)
         }
     }
 }

@@ -11,24 +11,21 @@ impl Formula {
     pub fn nodes(&self) -> &[Node]
         ensures { result.now ≡ nodes_in self.now }
     {
-        &self.nodes[0..self.count]
+        self.nodes.as_slice()
     }
 
     // The event formula entries by number.
     pub fn entries(&self) -> &[EventFormula]
         ensures { result.now ≡ entries_in self.now }
     {
-        &self.entries[0..self.used]
+        self.entries.as_slice()
     }
 
     // Whether moves with these events are meant.
     pub fn accepts(&self, guard: Guard, events: u64) -> bool
         ensures { result ≡ accepted self.now guard events }
     {
-        match guard {
-            Guard::Any => true,
-            Guard::By(entry) => accepts(self.entries(), entry, events),
-        }
+        guard.is_none_or(|entry| accepts(self.entries(), entry, events))
     }
 }
 

@@ -1,10 +1,13 @@
-use Rattle.std.proofs.Common.{◌≡◌, suc, ◌-◌, length}
+use Rattle.std.proofs.Common.{suc, length, Some}
 use Rattle.layouts.specs.Layouts.{listed_at}
-use Rattle.contents.specs.NamesLine.{map_ok}
-use Rattle.contents.specs.MarksLine.{add_mark, marked_of}
-use Rattle.contents.proofs.Folds.{folding}
-use Rattle.contents.proofs.Marking.{marked}
+use Rattle.contents.specs.MarksLine.{add_mark}
+use Rattle.contents.proofs.Folds.{folding, Sofar, left}
 use Rattle.contents.proofs.marks.read_marks.Given as goal
 
-abbrev pub invariant-loop-turn : goal.invariant-loop-turn
-invariant-loop-turn l = marked_of l.masks l.line ≡ map_ok (marked l.state.value) (folding (add_mark l.masks) (listed_at l.line) l.listing (suc (length l.line) - l.turn) l.at)
+abbrev pub invariant-loop-next : goal.invariant-loop-next
+invariant-loop-next l =
+    Sofar (add_mark l.masks) (listed_at l.line) l.line
+    (folding (add_mark l.masks) (listed_at l.line) (Some (record { least = 0; set = 0 })) (suc (length l.line)) l.state.after) l.listing l.next
+
+abbrev pub decreases-loop-next : goal.decreases-loop-next
+decreases-loop-next l = left l.line l.next

@@ -4,4 +4,4 @@ use Rattle.tables.specs.Spans.{Spanned}
 use Rattle.tables.proofs.spanned.spans_of.Given as goal
 
 abbrev pub invariant-loop-k : goal.invariant-loop-k
-invariant-loop-k l = (length l.spans ≡ max_states) × Spanned l.states l.k l.records l.spans
+invariant-loop-k l = record { whole : length l.spans ≡ max_states; spanned : Spanned l.states (length l.yielded) l.records l.spans }

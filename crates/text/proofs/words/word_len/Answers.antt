@@ -1,18 +1,17 @@
-use Rattle.std.proofs.Common.{drop, sym, arith}
-use Rattle.text.proofs.Runs.{goes_within, word_more, word_stop}
+use Rattle.std.proofs.Common.{◌-◌, length, drop, ◌∙◌, rules, refl, arith}
+use Rattle.std.specs.List.{range_with_len}
+use Rattle.std.proofs.lemmas.Iterator.{YieldsList-from_range}
+use Rattle.std.proofs.lemmas.Iterator.Search.{YieldsList-from_take_while}
+use Rattle.std.proofs.lemmas.Iterator.Consumers.{count_from_yields_List}
+use Rattle.std.proofs.lemmas.List.Folds.{length-prefix_len}
+use Rattle.text.specs.Words.{goes_on}
+use Rattle.text.proofs.Runs.{prefix_run}
 use Rattle.text.proofs.words.word_len.Goals as goal
 
--- the byte that the turn passes is one of the text's
-pub overflow_add-end : goal.overflow_add-end
-overflow_add-end c = omega (arith, goes_within c.args.text.now c.loop-end.end (sym c.loop-end-test.ensures))
-
-pub loop-end-smaller : goal.loop-end-smaller
-loop-end-smaller c = omega (arith, goes_within c.args.text.now c.loop-end.end (sym c.loop-end-test.ensures))
-
-pub loop-end-preserved : goal.loop-end-preserved
-loop-end-preserved c =
-    let more = word_more c.args.text.now c.loop-end.end (sym c.loop-end-test.ensures) in
-    (omega (arith, c.loop-end.invariant.0), omega (arith, c.loop-end.invariant.1, more))
-
 pub returns : goal.returns
-returns c = omega (arith, c.loop-end.invariant.0, c.loop-end.invariant.1, word_stop (drop c.loop-end.end c.args.text.now) (sym c.loop-end-test.ensures))
+returns c =
+    let s = c.args.text.now in
+    count_from_yields_List c.take_while.result c.count.result c.count.ensures.ran
+    (YieldsList-from_take_while _ (λ i. goes_on (drop i s)) (YieldsList-from_range c.args.at (length s) (length s - c.args.at) c.take_while.ensures.source refl) c.take_while.ensures.closure c.take_while.ensures.done (λ x b q k. search rules))
+    ∙ length-prefix_len (λ i. goes_on (drop i s)) (range_with_len c.args.at (length s - c.args.at))
+    ∙ prefix_run s c.args.at (length s - c.args.at) (omega arith)

@@ -1,41 +1,48 @@
-use Rattle.std.proofs.Common.{◌<◌, ◌≤◌, length, drop, sym, ◌∙◌, arith, rules}
-use Rattle.contents.specs.Labels.{pieces, label_limit}
-use Rattle.contents.proofs.Pieces.{end_inside, no_name, last_name, last_size, step, label_bad, label_long, label_good, pieces_some}
+use Rattle.std.proofs.Common.{◌<◌, ◌++◌, length-append, [], ◌∷◌, map, eqb, Some, rules, sym, ap, ◌∙◌, ◌≡◌, ◌≤◌, length, arith}
+use borrow.Author.Tests.{tests}
+use Rattle.std.proofs.lemmas.List.{map-append}
+use lib.ListN.{length-map}
+use Rattle.std.proofs.lemmas.Iterator.Splits.{YieldsList-from_slice_split}
+use Rattle.std.proofs.lemmas.Iterator.Consumers.{YieldsList-so_far, YieldsList-turn, YieldsList-end}
+use Rattle.contents.specs.Labels.{all_named, label_limit}
+use Rattle.contents.proofs.Pieces.{not_i, named_more, all_read, piece_unlawful, piece_too_many}
 use Rattle.contents.proofs.label.reading.read_label.Goals as goal
 
-pub slice_bounds-new-end : goal.slice_bounds-new-end
-slice_bounds-new-end c =
-    let h : c.byte_from-end.result ≤ length c.args.label.now = end_inside _ _ _ _ c.loop-count.invariant _ c.byte_from-end.ensures in
-    search rules
-
-pub returns-in_err-names : goal.returns-in_err-names
-returns-in_err-names c =
+pub returns-in_err-new : goal.returns-in_err-new
+returns-in_err-new c =
     let s = c.args.label.now in
-    let no_names = no_name s _ _ _ c.loop-count.invariant _ c.byte_from-end.ensures (sym c.in_err-names.ensures) in
-    rw c.from_residual.ensures (sym (label_bad s (sym c.if-same_bytes.ensures) no_names))
+    let ys = map (λ p. p.now) c.loop-piece.yielded in
+    let n : length ys ≡ length c.loop-piece.yielded = length-map c.loop-piece.yielded (λ p. p.now) in
+    let turn = YieldsList-turn (YieldsList-from_slice_split {s = c.into_iter-piece-iterator.result} _ (λ b. eqb b 59) c.args.label.now (search rules) (search rules) (search rules) (λ x b q k. search (rules, tests))) c.loop-piece.yielded _ c.loop-piece.yielded_by _ _ _ c.in-Some.is c.next.ensures.steps in
+    let so_far = YieldsList-so_far (YieldsList-from_slice_split {s = c.into_iter-piece-iterator.result} _ (λ b. eqb b 59) c.args.label.now (search rules) (search rules) (search rules) (λ x b q k. search (rules, tests))) c.loop-piece.yielded _ c.loop-piece.yielded_by in
+    rw c.from_residual.ensures (sym (piece_unlawful s (not_i s _ c.as_slice.ensures c.if-eq.ensures) ys _ c.loop-piece.invariant.2 c.in-Some.piece.now
+    (rw n so_far) (rw n turn.0) (rw n turn.1) c.in_err-new.ensures))
 
-pub returns-then-end-label : goal.returns-then-end-label
-returns-then-end-label c =
+pub loop-piece-preserved : goal.loop-piece-preserved
+loop-piece-preserved c =
+    let longer : c.push.new.self ≡ c.loop-piece.names ++ c.in_ok-new.field-0 ∷ [] = search rules in
+    let room : length c.loop-piece.names < label_limit = search rules in (
+      search rules,
+      tt,
+      ap all_named (map-append (λ p. p.now) c.loop-piece.yielded (c.in-Some.piece ∷ []))
+          ∙ named_more (map (λ p. p.now) c.loop-piece.yielded) c.in-Some.piece.now _ _ c.loop-piece.invariant.2 c.in_ok-new.ensures
+          ∙ ap Some (sym longer),
+      omega (arith, ap length longer, length-append c.loop-piece.names (c.in_ok-new.field-0 ∷ []), room),
+    )
+
+pub returns-in_err-ok : goal.returns-in_err-ok
+returns-in_err-ok c =
     let s = c.args.label.now in
-    let f = c.loop-count.invariant in
-    let room : c.loop-count.count < length c.loop-count.names = omega (arith, f.whole, c.loop-count-test.true) in
-    let e = sym c.in_ok-names.ensures in
-    let here = c.byte_from-end.ensures in
-    let all = c.if-end-label.true in
-    let few : length (pieces 59 s) ≤ label_limit = omega (arith, last_size s _ _ _ f _ here _ e room all, c.loop-count-test.true) in
-    sym (label_good s (sym c.if-same_bytes.ensures) few ∙ last_name s _ _ _ f _ here _ e room all)
-
-pub overflow_add-at : goal.overflow_add-at
-overflow_add-at c = omega (arith, end_inside _ _ _ _ c.loop-count.invariant _ c.byte_from-end.ensures)
-
-pub loop-count-preserved : goal.loop-count-preserved
-loop-count-preserved c =
-    let f = c.loop-count.invariant in
-    let room : c.loop-count.count < length c.loop-count.names = omega (arith, f.whole, c.loop-count-test.true) in
-    step _ _ _ _ f _ c.byte_from-end.ensures _ (sym c.in_ok-names.ensures) room c.if-end-label.false
+    let full : label_limit ≤ length c.loop-piece.names = search rules in
+    let ys = map (λ p. p.now) c.loop-piece.yielded in
+    let n : length ys ≡ length c.loop-piece.yielded = length-map c.loop-piece.yielded (λ p. p.now) in
+    let turn = YieldsList-turn (YieldsList-from_slice_split {s = c.into_iter-piece-iterator.result} _ (λ b. eqb b 59) c.args.label.now (search rules) (search rules) (search rules) (λ x b q k. search (rules, tests))) c.loop-piece.yielded _ c.loop-piece.yielded_by _ _ _ c.in-Some.is c.next.ensures.steps in
+    let so_far = YieldsList-so_far (YieldsList-from_slice_split {s = c.into_iter-piece-iterator.result} _ (λ b. eqb b 59) c.args.label.now (search rules) (search rules) (search rules) (λ x b q k. search (rules, tests))) c.loop-piece.yielded _ c.loop-piece.yielded_by in
+    rw c.from_residual-in_err-ok.ensures (sym (piece_too_many s (not_i s _ c.as_slice.ensures c.if-eq.ensures) ys _ c.loop-piece.invariant.2 c.in-Some.piece.now
+    (rw n so_far) (rw n turn.0) (rw n turn.1) full))
 
 pub returns : goal.returns
 returns c =
     let s = c.args.label.now in
-    let f = c.loop-count.invariant in
-    sym (label_long s (sym c.if-same_bytes.ensures) (omega (arith, f.sizes, c.loop-count-test.false, pieces_some 59 (drop c.loop-count.at s))))
+    let end = YieldsList-end (YieldsList-from_slice_split {s = c.into_iter-piece-iterator.result} _ (λ b. eqb b 59) c.args.label.now (search rules) (search rules) (search rules) (λ x b q k. search (rules, tests))) c.loop-piece.yielded _ c.loop-piece.yielded_by _ _ c.in-None.is c.next.ensures.steps in
+    sym (all_read s (not_i s _ c.as_slice.ensures c.if-eq.ensures) _ _ c.loop-piece.invariant.2 end.0 c.loop-piece.invariant.3)

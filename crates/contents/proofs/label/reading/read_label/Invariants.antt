@@ -1,5 +1,10 @@
-use Rattle.contents.proofs.Pieces.{Sofar}
+use Rattle.std.proofs.Common.{◌≡◌, ◌≤◌, map, length, Some}
+use Rattle.contents.specs.Labels.{all_named, label_limit}
 use Rattle.contents.proofs.label.reading.read_label.Given as goal
 
-abbrev pub invariant-loop-count : goal.invariant-loop-count
-invariant-loop-count l = Sofar l.label l.at l.count l.names
+abbrev pub invariant-loop-piece : goal.invariant-loop-piece
+invariant-loop-piece l =
+    (goal.iterator-loop-piece).can_next l.piece-iterator
+    × (goal.iterator-loop-piece).is_finite l.piece-iterator
+    × (all_named (map (λ p. p.now) l.yielded) ≡ Some l.names)
+    × (length l.names ≤ label_limit)
