@@ -3,3 +3,4 @@ pub mod Held
 pub mod Abstracted
 pub mod AbstractedLaw
 pub mod Showing
+pub mod Wording

@@ -5,3 +5,4 @@ pub mod Joining
 pub mod Turns
 pub mod Movers
 pub mod Sides
+pub mod Wording

@@ -13,10 +13,7 @@ use text::numbering::Names;
 pub(crate) fn first_names(file: &[u8]) -> Option<Names>
     ensures { option_map held result ≡ names_row (rows_of file.now) }
 {
-    let line = lines_from(file, 0).next()?;
-    if !line.ended {
-        return None;
-    }
+    let line = lines_from(file, 0).next().filter(|line| line.ended)?;
     let names = read_names(line.text).ok()??;
     are_well_begun(&names).then_some(names)
 }

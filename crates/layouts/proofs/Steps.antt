@@ -1,5 +1,6 @@
 -- One step of a layout, both ways: what was read stands there, and what stands there is read. Assumes nothing.
 use Rattle.std.proofs.Common.{◌≡◌, ℕ, suc, ◌+◌, ◌-◌, ◌<◌, Bool, true, false, cond, eqb, List, [], ◌∷◌, ◌++◌, length, take, drop, Ok, Err, Result, sym, refl, ap, ◌∙◌, arith, length-drop, drop-drop, eq-eqb, true-eqb}
+use Rattle.std.specs.Prelude.{⊤}
 use Rattle.std.proofs.lemmas.List.{drop_all, drop_at, take_at, length-take-le, take-append-drop}
 use Rattle.layouts.specs.declared.number.Number.{Number}
 use Rattle.layouts.specs.declared.fault.NumberFault.{NumberFault}
@@ -70,16 +71,16 @@ module _ (s : List ℕ) (i n : ℕ) (t : List ℕ) (small : n < 10000) (e : drop
     done = ap digits number_left ∙ done;
   }))
 
-pub end_text : (s : List ℕ) (i j : ℕ) → end_at s i ≡ Ok j → drop i s ≡ []
+pub end_text : (s : List ℕ) (i : ℕ) (j : ⊤) → end_at s i ≡ Ok j → drop i s ≡ []
 end_text s i j = go (eqb i (length s)) refl
   where
-    go : (b : Bool) → eqb i (length s) ≡ b → cond b (Ok i) (Err (Other i)) ≡ Ok j → drop i s ≡ []
+    go : (b : Bool) → eqb i (length s) ≡ b → cond b (Ok tt) (Err (Other i)) ≡ Ok j → drop i s ≡ []
     go true e h = drop_all i s (let z = true-eqb i (length s) (sym e) in omega arith)
     go false e h = absurd (let z : ◌≡◌ {A = ℕ} 0 1 = cc in omega arith)
 
 -- a place that was reached within the line
-pub end_read : (s : List ℕ) (i : ℕ) → i ≡ length s → end_at s i ≡ Ok i
-end_read s i e = ap (λ b. cond b (Ok i) (Err (Other i))) (eq-eqb i (length s) e)
+pub end_read : (s : List ℕ) (i : ℕ) → i ≡ length s → end_at s i ≡ Ok tt
+end_read s i e = ap (λ b. cond b (Ok tt) (Err (Other i))) (eq-eqb i (length s) e)
 
 pub left_none : (s p : List ℕ) (i : ℕ) → drop i s ≡ p → 0 < length p → i + length p ≡ length s
 left_none s p i e h = omega (arith, length-drop i s, ap length e)

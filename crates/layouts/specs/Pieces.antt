@@ -1,5 +1,5 @@
 -- Fixed pieces and quoted text in a line, and chains of readings. Assumes nothing.
-use Rattle.std.specs.Prelude.{ℕ, suc, ◌+◌, cond, List, [], ◌∷◌, length, drop, Ok, Err, Result, ◌==◌}
+use Rattle.std.specs.Prelude.{ℕ, suc, ◌+◌, cond, List, [], ◌∷◌, length, drop, Ok, Err, Result, ⊤, ◌==◌}
 use Rattle.layouts.specs.declared.number.Number.{Number}
 use Rattle.layouts.specs.declared.fault.NumberFault.{NumberFault}
 use Rattle.layouts.specs.declared.fault.LineFault.{LineFault}
@@ -30,9 +30,9 @@ before b (x ∷ xs) = cond (x == b) 0 (suc (before b xs))
 abbrev pub unquoted : List ℕ → ℕ
 unquoted xs = before 34 xs
 
--- the end of the line at the place i
-abbrev pub end_at : List ℕ → ℕ → Result ℕ LineFault
-end_at s i = cond (i == length s) (Ok i) (Err (Other i))
+-- whether the line ends at the place i
+abbrev pub end_at : List ℕ → ℕ → Result ⊤ LineFault
+end_at s i = cond (i == length s) (Ok tt) (Err (Other i))
 
 -- a number in a line; the line's fault carries the number's
 abbrev pub in_line : Result Number NumberFault → Result Number LineFault

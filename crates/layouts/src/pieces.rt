@@ -42,11 +42,11 @@ pub fn byte_from(text: &[u8], at: usize, wanted: u8) -> usize
 }
 
 // Asks that the line ends at `at`.
-pub(crate) fn read_end(line: &[u8], at: usize) -> Result<usize, LineFault>
+pub(crate) fn read_end(line: &[u8], at: usize) -> Result<(), LineFault>
     ensures { result ≡ end_at line.now at }
 {
     if at == line.len() {
-        Ok(at)
+        Ok(())
     } else {
         Err(LineFault::Other { at })
     }

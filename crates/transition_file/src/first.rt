@@ -10,10 +10,7 @@ use layouts::transitions::{Header, read_header};
 pub(crate) fn first_header(file: &[u8]) -> Option<Header>
     ensures { result ≡ header_row (rows_of file.now) }
 {
-    let line = lines_from(file, 0).next()?;
-    if !line.ended {
-        return None;
-    }
+    let line = lines_from(file, 0).next().filter(|line| line.ended)?;
     read_header(line.text).ok()
 }
 

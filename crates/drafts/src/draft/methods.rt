@@ -28,11 +28,8 @@ impl Draft {
     fn next_number(&self) -> u8
         ensures { result ≡ (drafted self.now).count }
     {
-        if self.too_long {
-            MAX_NODES as u8 + 1
-        } else {
-            self.nodes.len() as u8
-        }
+        let nodes = self.nodes.len() + usize::from(self.too_long);
+        u8::try_from(nodes).unwrap()
     }
 
     // One node more, and its number; where there is no room for it, that is only noted.

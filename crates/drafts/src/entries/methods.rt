@@ -30,7 +30,7 @@ impl EntryDraft {
         ensures number { result ≡ length (entries_read self.old).list }
         ensures added { entries_read self.new ≡ add_entry entry (entries_read self.old) }
     {
-        let number = self.list.len() as u8;
+        let number = u8::try_from(self.list.len()).unwrap();
         if self.written < MAX_ENTRIES {
             self.list.push(entry).unwrap();
             self.written += 1;
@@ -46,7 +46,7 @@ impl EntryDraft {
         ensures added { entries_read self.new ≡ add_event (held names.now) name.now (entries_read self.old) }
     {
         match names.number_of(name) {
-            Some(event) => self.push(EventFormula::Event(event as u8)),
+            Some(event) => self.push(EventFormula::Event(u8::try_from(event).unwrap())),
             None => {
                 self.unknown = true;
                 self.push(EventFormula::False)
