@@ -1,11 +1,13 @@
 -- The pieces of a label one by one, and their names. Assumes nothing.
-use Rattle.std.proofs.Common.{◌≡◌, ℕ, suc, ◌+◌, ◌<◌, ◌≤◌, Bool, true, false, cond, ◌&&◌, eqb, leb, List, [], ◌∷◌, ◌++◌, length, get_or, take, drop, Some, None, codes, Option, sym, refl, ap, ◌∙◌, arith, length-append, le-leb}
+use Rattle.std.proofs.Common.{◌≡◌, ℕ, suc, ◌+◌, ◌*◌, ◌<◌, ◌≤◌, Bool, true, false, cond, not, ◌&&◌, T, eqb, leb, List, [], ◌∷◌, ◌++◌, length, get_or, take, drop, Some, None, codes, Option, sym, refl, ap, ◌∙◌, subst, arith, length-append, le-leb}
 use borrow.Author.Tests.{lt-leb}
 use lib.Pointwise.{pointwise}
 use Rattle.std.proofs.lemmas.List.{append_assoc, drop_more, take-append-drop}
 use Rattle.std.specs.List.{slice_split, onto_first}
-use Rattle.text.specs.Words.{same}
-use Rattle.text.specs.Names.{named}
+use Rattle.std.proofs.lemmas.Bool.{and_parts, leb-true}
+use Rattle.text.proofs.Letters.{word_short}
+use Rattle.text.specs.Words.{word_limit, same, is_word, is_reserved, is_name}
+use Rattle.text.specs.Names.{name_of, named}
 use Rattle.text.specs.declared.names.Name.{Name}
 use Rattle.contents.specs.Labels.{label_limit, on_first, pieces, before_all, with_name, all_named, label_names}
 
@@ -77,6 +79,36 @@ named_length (p ∷ ps) ns e = go (named p) (all_named ps) (named_length ps) e
 named_long : (ps rest : List (List ℕ)) (p : List ℕ) (ns : List Name) → all_named ps ≡ Some ns → label_limit ≤ length ns → label_limit < length (ps ++ p ∷ rest)
 named_long ps rest p ns e h = omega (arith, named_length ps ns e, length-append ps (p ∷ rest))
 
+-- the bytes of pieces, each with the byte behind it
+abbrev joined : List (List ℕ) → ℕ
+joined [] = 0
+joined (p ∷ ps) = suc (length p) + joined ps
+
+pieces_joined : (b : ℕ) (xs : List ℕ) → joined (pieces b xs) ≡ suc (length xs)
+pieces_joined b [] = omega arith
+pieces_joined b (x ∷ xs) = go (eqb x b) (pieces b xs) (pieces_joined b xs)
+  where
+    go : (t : Bool) (ps : List (List ℕ)) → joined ps ≡ suc (length xs) → joined (cond t ([] ∷ ps) (on_first x ps)) ≡ suc (suc (length xs))
+    go true ps e = omega (arith, e)
+    go false [] e = absurd (omega (arith, e))
+    go false (p ∷ ps) e = omega (arith, e)
+
+named_short : (p : List ℕ) (n : Name) → named p ≡ Some n → length p ≤ word_limit
+named_short p n e = go (is_name p) refl e
+  where
+    go : (t : Bool) → is_name p ≡ t → cond t (Some (name_of p)) None ≡ Some n → length p ≤ word_limit
+    go true h f = word_short p (subst T (sym (and_parts (is_word p) (not (is_reserved p)) h).0) tt)
+    go false h f = absurd (let z : ◌≡◌ {A = ℕ} 0 1 = cc in omega arith)
+
+named_joined : (ps : List (List ℕ)) (ns : List Name) → all_named ps ≡ Some ns → joined ps ≤ 25 * length ps
+named_joined [] ns e = omega arith
+named_joined (p ∷ ps) ns e = go (named p) (all_named ps) refl (named_joined ps) e
+  where
+    go : (n : Option Name) (o : Option (List Name)) → named p ≡ n → ((ms : List Name) → o ≡ Some ms → joined ps ≤ 25 * length ps) → with_name n o ≡ Some ns → joined (p ∷ ps) ≤ 25 * length (p ∷ ps)
+    go None o h q f = absurd (let z : ◌≡◌ {A = ℕ} 0 1 = cc in omega arith)
+    go (Some n) None h q f = absurd (let z : ◌≡◌ {A = ℕ} 0 1 = cc in omega arith)
+    go (Some n) (Some ms) h q f = omega (arith, q ms refl, named_short p n h)
+
 -- what label_names says in each case
 module _ (l : List ℕ) where
   listing : same l (codes "i") ≡ false → label_names l ≡ cond (leb (length (pieces 59 l)) label_limit) (all_named (pieces 59 l)) None
@@ -91,6 +123,14 @@ module _ (l : List ℕ) where
 
   label_long : same l (codes "i") ≡ false → label_limit < length (pieces 59 l) → label_names l ≡ None
   label_long e h = listing e ∙ ap (λ b. cond b (all_named (pieces 59 l)) None) (lt-leb (length (pieces 59 l)) label_limit h)
+
+  pub bytes_too_many : same l (codes "i") ≡ false → 199 < length l → label_names l ≡ None
+  bytes_too_many e h = listing e ∙ go (leb (length (pieces 59 l)) label_limit) (all_named (pieces 59 l)) refl refl
+    where
+      go : (t : Bool) (o : Option (List Name)) → leb (length (pieces 59 l)) label_limit ≡ t → all_named (pieces 59 l) ≡ o → cond t o None ≡ None
+      go false o f g = refl
+      go true None f g = refl
+      go true (Some ns) f g = absurd (omega (arith, h, leb-true (length (pieces 59 l)) label_limit f, named_joined (pieces 59 l) ns g, pieces_joined 59 l))
 
   label_good : same l (codes "i") ≡ false → length (pieces 59 l) ≤ label_limit → label_names l ≡ all_named (pieces 59 l)
   label_good e h = listing e ∙ ap (λ b. cond b (all_named (pieces 59 l)) None) (le-leb (length (pieces 59 l)) label_limit h)

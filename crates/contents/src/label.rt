@@ -1,5 +1,6 @@
 // The names in the label of a transition.
 ghost use Rattle.std.specs.Prelude.{◌≤◌, length};
+ghost use Rattle.lists.specs.Items.{items};
 ghost use Rattle.contents.specs.Labels.{label_limit};
 
 use lists::FixedList;
@@ -14,5 +15,5 @@ pub const LABEL_LIMIT: usize = 8;
 #[derive(Clone, Copy, Debug, PartialEq, Eq)]
 pub struct Label {
     names: FixedList<Name, LABEL_LIMIT>,
-    ghost within: { length names ≤ label_limit },
+    ghost within: { length (items names) ≤ label_limit },
 }

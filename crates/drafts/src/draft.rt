@@ -1,5 +1,6 @@
 // A formula while it is read.
 ghost use Rattle.std.specs.Prelude.{◌≡◌, ◌≤◌, true, length};
+ghost use Rattle.lists.specs.Items.{items};
 ghost use Rattle.logic.specs.Limits.{max_nodes};
 
 mod methods;
@@ -23,6 +24,6 @@ pub struct Draft {
     pub unknown: bool,
     // An odd number of `not` stood between a variable and its binder.
     pub odd: bool,
-    ghost within: { length nodes ≤ max_nodes },
-    ghost full: { too_long ≡ true → length nodes ≡ max_nodes },
+    ghost within: { length (items nodes) ≤ max_nodes },
+    ghost full: { too_long ≡ true → length (items nodes) ≡ max_nodes },
 }

@@ -1,5 +1,6 @@
 // Event formula entries, one after the other.
 ghost use Rattle.std.specs.Prelude.{◌≡◌, suc, ◌≤◌, length};
+ghost use Rattle.lists.specs.Items.{items};
 ghost use Rattle.logic.specs.Limits.{max_entries};
 
 mod methods;
@@ -16,7 +17,7 @@ pub struct EntryDraft {
     pub written: usize,
     // A name of an event was not known.
     pub unknown: bool,
-    ghost stored: { length list ≤ written },
-    ghost within: { length list ≤ max_entries },
+    ghost stored: { length (items list) ≤ written },
+    ghost within: { length (items list) ≤ max_entries },
     ghost counted: { written ≤ suc max_entries },
 }

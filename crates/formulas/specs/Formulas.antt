@@ -9,19 +9,20 @@ use Rattle.logic.specs.Limits.{max_nodes, max_depth}
 use Rattle.trees.specs.Numbering.{Term}
 use Rattle.trees.specs.Lawful.{node_at}
 use Rattle.trees.specs.Reading.{SameNode}
+use Rattle.lists.specs.Items.{items}
 use Rattle.formulas.specs.Stored.{stored_tree}
 use Rattle.formulas.specs.declared.formula.Formula.{Formula}
 
 -- the nodes and entries
 abbrev pub nodes_in : Formula → List Node
-nodes_in f = f.nodes
+nodes_in f = items f.nodes
 
 abbrev pub entries_in : Formula → List EventFormula
-entries_in f = f.entries
+entries_in f = items f.entries
 
 -- how many nodes there are; the root is the last
 abbrev pub node_count : Formula → ℕ
-node_count f = length f.nodes
+node_count f = length (nodes_in f)
 
 abbrev pub root_of : Formula → ℕ
 root_of f = node_count f - 1
@@ -32,7 +33,7 @@ node_in f j = node_at (nodes_in f) j
 
 -- the tree of the formula
 abbrev pub tree_of : Formula → Term
-tree_of f = stored_tree f.nodes f.entries
+tree_of f = stored_tree (nodes_in f) (entries_in f)
 
 -- whether moves with these events are meant: a missing event formula means all
 abbrev pub accepted : Formula → Guard → ℕ → Bool

@@ -65,8 +65,6 @@ fn tell_table(rt: &HostRuntime, table: &Table<'_>) -> io::Result<()> {
     add(rt, &mut sheet, 2, 0)?;
     add(rt, &mut sheet, 64, 0)?;
     add(rt, &mut sheet, 0, 64)?;
-    // A copy first: a sheet by value, once more after it was handed on, is not covered by the borrow checker.
-    let outer = sheet;
     let inner = Abstraction::new(table, sheet);
     tell(rt, "example behind a sheet", &inner)?;
     tell_behind(
@@ -74,7 +72,7 @@ fn tell_table(rt: &HostRuntime, table: &Table<'_>) -> io::Result<()> {
         "a sheet over a sheet beside the example",
         &inner,
         table,
-        outer,
+        sheet,
     )
 }
 

@@ -14,10 +14,8 @@ fn joined_events<A: System, B: System>(a: &A, b: &B, sheet: Sheet, q: u16, i: us
 
 // An abstraction of an interleaving of an abstraction and a table.
 fn over_a_table(table: &Table<'_>, sheet: Sheet) -> u64 {
-    // A copy first: a sheet by value, once more after it was handed on, is not covered by the borrow checker.
-    let outer = sheet;
     let inner = Abstraction::new(table, sheet);
-    joined_events(&inner, table, outer, 0, 0)
+    joined_events(&inner, table, sheet, 0, 0)
 }
 
 // The number of states of a system beside itself, and 0 where that is refused.

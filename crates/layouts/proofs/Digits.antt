@@ -1,7 +1,7 @@
 -- A run of digits, digit by digit, and its numeral. Assumes nothing.
 use Rattle.std.specs.List.{take_while, prefix_len}
 use Rattle.std.proofs.lemmas.List.Folds.{length-prefix_len}
-use Rattle.std.proofs.Common.{take, ◌≡◌, ℕ, zero, suc, ◌+◌, ◌-◌, ◌*◌, ◌/◌, ◌%◌, ◌<◌, ◌≤◌, Bool, true, false, cond, ◌&&◌, eqb, ltb, leb, List, [], ◌∷◌, ◌++◌, map, length, drop, is_some, Some, None, Ok, Err, Option, Result, unwrap_or, sym, refl, ap, ◌∙◌, subst, ⊎_elim, arith, drop-drop, eq-eqb, ne_eqb, le-leb}
+use Rattle.std.proofs.Common.{take, ◌≡◌, ℕ, zero, suc, min, ◌+◌, ◌-◌, ◌*◌, ◌/◌, ◌%◌, ◌<◌, ◌≤◌, Bool, true, false, cond, ◌&&◌, eqb, ltb, leb, List, [], ◌∷◌, ◌++◌, map, length, drop, is_some, Some, None, Ok, Err, Option, Result, unwrap_or, sym, refl, ap, ◌∙◌, subst, ⊎_elim, arith, drop-drop, eq-eqb, ne_eqb, le-leb}
 use lib.ListN.{length-map}
 use Rattle.std.proofs.lemmas.Bool.{cond-true, cond-false, lt-ltb, le-ltb, ltb-false, cases_lt, and_parts, leb-true}
 use Rattle.std.specs.List.{AllByRecursion}
@@ -35,6 +35,24 @@ digits_is xs = length-prefix_len is_digit xs ∙ counted xs
     counted : (ys : List ℕ) → prefix_len is_digit ys ≡ digits ys
     counted [] = refl
     counted (b ∷ bs) = let e : 1 + prefix_len is_digit bs ≡ suc (digits bs) = omega (arith, counted bs) in ap (λ n. cond (is_digit b) n 0) e
+
+-- of the digits in a front, at most as many are counted as it has bytes
+pub digits_front : (n : ℕ) (xs : List ℕ) → digits (take n xs) ≡ min n (digits xs)
+digits_front zero xs = omega arith
+digits_front (suc n) [] = omega arith
+digits_front (suc n) (b ∷ bs) = go (is_digit b) (digits_front n bs)
+  where
+    go : (t : Bool) → digits (take n bs) ≡ min n (digits bs) → cond t (suc (digits (take n bs))) 0 ≡ min (suc n) (cond t (suc (digits bs)) 0)
+    go true e = omega (arith, e)
+    go false e = omega arith
+
+pub digits_few : (xs : List ℕ) → digits xs ≤ length xs
+digits_few [] = omega arith
+digits_few (b ∷ bs) = go (is_digit b) (digits_few bs)
+  where
+    go : (t : Bool) → digits bs ≤ length bs → cond t (suc (digits bs)) 0 ≤ suc (length bs)
+    go true h = omega arith
+    go false h = omega arith
 
 -- what stands behind the digits is not read
 pub worth_cut : (xs : List ℕ) (v : ℕ) → worth v (take (digits xs) xs) ≡ worth v xs

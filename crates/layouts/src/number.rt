@@ -1,8 +1,8 @@
 // Decimal numbers of 1 to 4 digits with no leading zero.
-ghost use Rattle.std.specs.Prelude.{◌≡◌, ◌+◌, ◌*◌, ◌<◌, ◌≤◌, ◌==◌, ◌&&◌, length, nat_lt};
+ghost use Rattle.std.specs.Prelude.{◌≡◌, ◌+◌, ◌*◌, ◌<◌, ◌≤◌, ◌==◌, ◌&&◌, length, min, nat_lt};
 ghost use Rattle.std.specs.List.{take_while};
 ghost use Rattle.std.specs.Option.{unwrap_or};
-ghost use Rattle.layouts.specs.Numbers.{digit_worth, front_worth, is_digit, most_digits, worth, number_at, Numerals};
+ghost use Rattle.layouts.specs.Numbers.{digit_worth, front_worth, is_digit, digits, most_digits, worth, number_at, Numerals};
 
 use crate::fault::NumberFault;
 use lists::rest_from;
@@ -29,6 +29,14 @@ fn count_digits(text: &[u8]) -> usize
     ensures { result ≡ length (take_while is_digit text.now) }
 {
     text.iter().take_while(|b| b.is_ascii_digit()).count()
+}
+
+// The same, up to one more than a number may have: however many follow, it is no number.
+fn count_few_digits(text: &[u8]) -> usize
+    ensures { result ≡ min (most_digits + 1) (digits text.now) }
+{
+    let most = (MOST_DIGITS + 1).min(text.len());
+    count_digits(&text[..most])
 }
 
 // The worth of the first byte, if it is a digit.
@@ -73,7 +81,7 @@ pub fn read_number(text: &[u8], at: usize) -> Result<Number, NumberFault>
     ensures { result ≡ number_at text.now at }
 {
     let rest = rest_from(text, at);
-    let digits = count_digits(rest);
+    let digits = count_few_digits(rest);
     if digits == 0 || zero_leads(rest, digits) {
         return Err(NumberFault { at });
     }

@@ -1,6 +1,7 @@
 -- The token that comes next, by what was found there. Assumes nothing.
 use Rattle.std.proofs.Common.{◌≡◌, ℕ, suc, ◌+◌, ◌-◌, ◌<◌, ◌≤◌, Bool, true, false, cond, List, [], ◌∷◌, length, get_or, take, drop, Some, None, Option, sym, refl, ap, ◌∙◌, arith, length-drop}
-use Rattle.std.specs.List.{prefix_len}
+use Rattle.std.specs.List.{take_while, prefix_len}
+use Rattle.std.proofs.lemmas.List.Folds.{length-prefix_len}
 use Rattle.std.proofs.lemmas.List.{drop_all, drop_more}
 use Rattle.std.proofs.lemmas.Bool.{lt-ltb, le-ltb}
 use Rattle.text.specs.Words.{word_limit, is_start, goes_on, word_len}
@@ -61,3 +62,7 @@ prefix_blanks (x ∷ xs) = by (is_blank x) (prefix_blanks xs)
     by : (b : Bool) → prefix_len is_blank xs ≡ blanks xs → cond b (1 + prefix_len is_blank xs) 0 ≡ cond b (suc (blanks xs)) 0
     by true e = omega (arith, e)
     by false e = refl
+
+-- what the library counts
+pub blanks_is : (xs : List ℕ) → length (take_while is_blank xs) ≡ blanks xs
+blanks_is xs = length-prefix_len is_blank xs ∙ prefix_blanks xs

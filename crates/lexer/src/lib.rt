@@ -1,10 +1,12 @@
 // The tokens of formula text, handed out one by one.
 #![tactic(auto)]
 
-ghost use Rattle.std.specs.Prelude.{◌≡◌, ◌+◌, drop};
+ghost use Rattle.std.specs.Prelude.{◌≡◌, ◌+◌, drop, length};
+ghost use Rattle.std.specs.List.{take_while};
 ghost use Rattle.lexer.specs.Tokens.{is_blank, mark_of, blanks, token_at, seen_token};
 
 use classes::{Class, class_of};
+use lists::rest_from;
 use text::words::{WORD_LIMIT, is_start, word_len};
 
 #[derive(Clone, Copy, Debug, PartialEq, Eq)]
@@ -67,11 +69,18 @@ fn mark_of(b: u8) -> Option<Mark>
     }
 }
 
-// The place of the first byte from `at` on that is not blank.
+// How many blanks stand at the front.
+fn count_blanks(text: &[u8]) -> usize
+    ensures { result ≡ length (take_while is_blank text.now) }
+{
+    text.iter().take_while(|&&b| is_blank(b)).count()
+}
+
+// The place of the first byte from `at` on that is not blank. The rest is taken as a slice, since `skip` walks over all that stands before it.
 fn skip_blanks(text: &[u8], at: usize) -> usize
     ensures { result ≡ at + blanks (drop at text.now) }
 {
-    at + text.iter().skip(at).take_while(|&&b| is_blank(b)).count()
+    at + count_blanks(rest_from(text, at))
 }
 
 // The token that comes next from `at` on. Callers keep the place that was reached, go back to it or look twice, so it is a number and no cursor.

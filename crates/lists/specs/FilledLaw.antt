@@ -1,6 +1,6 @@
 -- Rows of places that are filled from the front.
-use Rattle.std.proofs.Common.{◌≡◌, ℕ, ◌+◌, ◌-◌, ◌<◌, List, ◌++◌, length, take, drop, set, replicate, sym, ap, ◌∙◌, arith}
-use Rattle.std.proofs.lemmas.List.{length-take-le, take-append-drop, drop-drop, drop-replicate, length-replicate, drop-set-lt, length-set}
+use Rattle.std.proofs.Common.{◌≡◌, ℕ, suc, ◌+◌, ◌-◌, ◌<◌, List, ◌∷◌, ◌++◌, length, take, drop, set, replicate, sym, ap, ◌∙◌, arith}
+use Rattle.std.proofs.lemmas.List.{length-take-le, take-append-drop, drop-drop, drop-replicate, length-replicate, drop-set, drop-set-lt, length-set}
 use Rattle.lists.specs.Filled.{Filled, filled}
 
 module _ {X : Type 0} (N : ℕ) (blank : X) (count : ℕ) (places : List X) (f : Filled N blank count places) where
@@ -29,6 +29,21 @@ module _ {X : Type 0} (N : ℕ) (blank : X) (count : ℕ) (places : List X) (f :
     whole = length-set places count x ∙ f.whole;
     behind = drop-set-lt (count + 1) places count x (omega arith) ∙ behind_next;
   }
+
+  -- one item less, and a blank in its place
+  pub one_less : (x : X) → x ≡ blank → 0 < count → Filled N blank (count - 1) (set places (count - 1) x)
+  one_less x e some =
+      let next : (count - 1) + 1 ≡ count = omega arith in
+      let more : suc (N - count) ≡ N - (count - 1) = omega (arith, f.within) in
+      record {
+        within = omega (arith, f.within);
+        whole = length-set places (count - 1) x ∙ f.whole;
+        behind =
+            drop-set places (count - 1) x (omega (arith, f.within, f.whole))
+            ∙ (λ i. e i ∷ drop (next i) places)
+            ∙ ap (λ xs. blank ∷ xs) f.behind
+            ∙ ap (λ n. replicate n blank) more;
+      }
 
 -- no items
 pub none_held : {X : Type 0} (N : ℕ) (blank : X) → Filled N blank 0 (replicate N blank)

@@ -1,2 +1,4 @@
 pub mod Filled
 pub mod FilledLaw
+pub mod Items
+pub mod Same

@@ -2,9 +2,11 @@
 #![tactic(auto)]
 
 ghost use Rattle.std.specs.Prelude.{◌≡◌, ◌↔◌, ◌++◌, ◌∷◌, [], length, drop, is_ok, nat_lt, OnOk, OnErr, IfSome, IsNone, ⊤};
+ghost use Rattle.lists.specs.Filled.{Filled};
 
 use std::alloc::AllocError;
-use std::marker::Model;
+
+pub mod facts;
 
 // The items from `start` on; none past the end.
 pub fn rest_from<T>(items: &[T], start: usize) -> &[T]
@@ -25,28 +27,13 @@ pub trait Blank: Copy {
 #[derive(Clone, Copy, Debug, PartialEq, Eq)]
 pub struct ListFull;
 
-// At most N items without a heap, in the first `count` places; the places behind them hold blanks. Who writes the fields proves that this stays so.
+// At most N items without a heap, in the first `count` places; the places behind them hold blanks. Who writes the fields proves that this
+// stays so. A ghost field and no model: a value that holds one with a model is not copied where it is passed by value and used again.
 #[derive(Debug, PartialEq, Eq)]
 pub struct FixedList<T: Blank, const N: usize> {
     pub places: [T; N],
     pub count: usize,
-}
-
-// Clauses see the items, in order.
-impl<T: Blank, const N: usize> Model for FixedList<T, N> {
-    ghost use Rattle.std.specs.Prelude.{List, take, length};
-    ghost use Rattle.lists.specs.Filled.{Filled, filled};
-    ghost use Rattle.lists.specs.FilledLaw.{places_back, held_count};
-
-    ghost Value = { List T };
-
-    ghost view = { λ l. take l.count l.places };
-
-    ghost invariant = { λ l. Filled N T.Blank.blank l.count l.places };
-
-    ghost inverse = { λ xs. record { places = filled N T.Blank.blank xs; count = length xs } };
-
-    ghost inverse_ok = { λ l h. (λ j. record { places = places_back N T.Blank.blank l.count l.places h j; count = held_count N T.Blank.blank l.count l.places h j }) };
+    pub ghost filled: { Filled N T.Blank.blank count places },
 }
 
 // By hand: a derived clone is only known to be of clones of the items, and the check leaves its invariant open.
@@ -63,9 +50,11 @@ impl<T: Blank, const N: usize> Clone for FixedList<T, N> {
 impl<T: Blank, const N: usize> Copy for FixedList<T, N> {}
 
 impl<T: Blank, const N: usize> FixedList<T, N> {
+    ghost use Rattle.lists.specs.Items.{items};
+
     // A list without items.
     pub fn new() -> Self
-        ensures { result ≡ [] }
+        ensures { items result ≡ [] }
     {
         FixedList {
             places: [T::blank(); N],
@@ -75,22 +64,22 @@ impl<T: Blank, const N: usize> FixedList<T, N> {
 
     // The items, in order.
     pub fn as_slice(&self) -> &[T]
-        ensures { result.now ≡ self.now }
+        ensures { result.now ≡ items self.now }
     {
         &self.places[..self.count]
     }
 
     // The number of items.
     pub fn len(&self) -> usize
-        ensures { result ≡ length self.now }
+        ensures { result ≡ length (items self.now) }
     {
         self.as_slice().len()
     }
 
     // One item more at the end, unless there are N.
     pub fn push(&mut self, x: T) -> Result<(), ListFull>
-        ensures fits { is_ok result ≡ nat_lt (length self.old) N }
-        ensures ok { OnOk result (self.new ≡ self.old ++ x ∷ []) }
+        ensures fits { is_ok result ≡ nat_lt (length (items self.old)) N }
+        ensures ok { OnOk result (items self.new ≡ items self.old ++ x ∷ []) }
         ensures err { OnErr result (self.new ≡ self.old) }
     {
         if self.count == N {
@@ -103,16 +92,17 @@ impl<T: Blank, const N: usize> FixedList<T, N> {
 
     // Takes the last item, if there is one.
     pub fn pop(&mut self) -> Option<T>
-        ensures some { IfSome result (λ x. self.old ≡ self.new ++ x ∷ []) }
-        ensures none { IsNone result ↔ (self.old ≡ []) }
+        ensures some { IfSome result (λ x. items self.old ≡ items self.new ++ x ∷ []) }
+        ensures none { IsNone result ↔ (items self.old ≡ []) }
         ensures kept { IsNone result → self.new ≡ self.old }
     {
         if self.count == 0 {
             return None;
         }
-        self.count -= 1;
-        let last = self.places[self.count];
-        self.places[self.count] = T::blank();
+        let place = self.count - 1;
+        let last = self.places[place];
+        self.places[place] = T::blank();
+        self.count = place;
         Some(last)
     }
 }

@@ -54,11 +54,20 @@ told file known h e0 =
     })))))))
 
 module _ (h : Header) (fit : numbers_fit h ≡ true) where
+  front : (leb 1 h.states && leb h.states max_states) ≡ true
+  front = (and_parts _ (leb h.transitions max_transitions && ltb h.initial h.states) fit).0
+
+  pub states_few : h.states ≤ max_states
+  states_few = leb-true h.states max_states (and_parts (leb 1 h.states) _ front).1
+
   back : (leb h.transitions max_transitions && ltb h.initial h.states) ≡ true
   back = (and_parts (leb 1 h.states && leb h.states max_states) _ fit).1
 
   pub transitions_few : h.transitions ≤ max_transitions
   transitions_few = leb-true h.transitions max_transitions (and_parts _ (ltb h.initial h.states) back).0
+
+  pub starts : h.initial < h.states
+  starts = ltb-true h.initial h.states (and_parts (leb h.transitions max_transitions) _ back).1
 
 -- exactly so many lines
 pub counted : (m end : ℕ) (rs : List Row) → misplaced m end rs ≡ None → length rs ≡ m

@@ -71,6 +71,10 @@ module _ (states read : ℕ) (records : List Transition) (q : ℕ) (s : Span) (o
   abbrev among : List Transition
   among = take (s.end - s.begin) (drop s.begin records)
 
+  -- past the span's count there is no move
+  pub past_count : (i : ℕ) → s.count ≤ i → slice_get (take max_moves (filter p (take read records))) i ≡ None
+  past_count i h = slice_get_past (take max_moves (filter p (take read records))) i (simp length-take (omega (arith, h, o.4)))
+
   -- those of them that count are those that a table shows
   pub span_lists : filter p among ≡ take max_moves (filter p (take read records))
   span_lists =

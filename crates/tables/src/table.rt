@@ -70,13 +70,16 @@ impl<'a> Table<'a> {
             .copied()
     }
 
-    // The record of the move `i` of the state `q`: where the records of the state lie together it is read at its place.
+    // The record of the move `i` of the state `q`: where the records of the state lie together it is read at its place, and
+    // past their number none is looked for.
     #[tactic(auto, using(crate::proofs::Finding::item_copied, crate::proofs::Finding::dense_shown))]
     fn record_at(&self, q: u16, i: usize) -> Option<Transition>
         ensures { result ≡ slice_get (shown_records self.now q) i }
     {
         let span = self.span(q);
-        if span.end - span.begin == span.count {
+        if i >= span.count {
+            None
+        } else if span.end - span.begin == span.count {
             self.records[span.begin..span.end].get(i).copied()
         } else {
             self.find(q, i)

@@ -5,14 +5,19 @@ use Rattle.std.proofs.lemmas.Bool.{le-leb, lt-leb, leb-false, ltb-true, false≢
 use Rattle.text.specs.declared.names.Name.{Name}
 use Rattle.text.specs.declared.numbering.Names.{Names}
 use Rattle.text.specs.Held.{held}
+use Rattle.text.specs.contracts.names.NameBlank.TheImpl.{ghosts}
+use Rattle.lists.specs.FilledLaw.{held_count}
+use Rattle.lists.specs.Items.{items}
+use Rattle.lists.specs.declared.FixedList.{FixedList}
 use Rattle.lists.specs.declared.ListFull.{ListFull}
 use Rattle.text.specs.Numbering.{names_limit, number_of, all_different, join_one, join_all}
 use Rattle.text.specs.Names.{same_name}
 use Rattle.text.proofs.Picks.{within}
 use Rattle.text.proofs.Joins.{join_new, join_longer, push_different}
 
-pub held_length : (t : Names) → length (held t) ≡ length t.list
-held_length t = refl
+-- as many names are held as are counted
+pub held_length : (t : Names) → length (held t) ≡ t.list.count
+held_length t = held_count _ _ _ _ t.list.filled
 
 pub not_some : {X : Type 0} (o : Option X) → is_some o ≡ false → o ≡ None
 not_some (Some x) e = absurd (false≢true (sym e))
@@ -43,10 +48,10 @@ pub join_end : (xs names : List Name) (i : ℕ) → length names ≤ i → join_
 join_end xs names i h = at_drop_all (join_all xs) names i h
 
 -- one more name, where there is room for it
-pub push_whole : (t : Names) (n : Name) (r : Result (Unit {0}) ListFull) (list : List Name) → number_of (held t) n ≡ None → is_ok r ≡ nat_lt (length (held t)) names_limit →
-    OnOk r (list ≡ held t ++ (n ∷ [])) → OnErr r (list ≡ held t) → (length list ≤ names_limit) × T (all_different list)
+pub push_whole : (t : Names) (n : Name) (r : Result (Unit {0}) ListFull) (list : FixedList Name 64 ghosts) → number_of (held t) n ≡ None → is_ok r ≡ nat_lt (length (held t)) names_limit →
+    OnOk r (items list ≡ held t ++ (n ∷ [])) → OnErr r (list ≡ t.list) → (length (items list) ≤ names_limit) × T (all_different (items list))
 push_whole t n (Ok u) list new fits e f = (omega (arith, ap length e, length_push (held t) n, ltb-true (length (held t)) 64 (sym fits)), subst (λ (xs : List Name). T (all_different xs)) (sym e) (push_different (held t) n t.apart new))
-push_whole t n (Err x) list new fits e f = (omega (arith, ap length f, t.within), subst (λ (xs : List Name). T (all_different xs)) (sym f) t.apart)
+push_whole t n (Err x) list new fits e f = (subst (λ (l : FixedList Name 64 ghosts). length (items l) ≤ names_limit) (sym f) t.within, subst (λ (l : FixedList Name 64 ghosts). T (all_different (items l))) (sym f) t.apart)
 
 -- a number is below the limit
 pub number_below : (t : Names) (n : Name) (o : Option ℕ) → o ≡ number_of (held t) n → IfSome o (λ i. i < names_limit)

@@ -1,5 +1,6 @@
 // A table of names that are numbered from 0 in the order in which they joined.
 ghost use Rattle.std.specs.Prelude.{◌≡◌, ◌≤◌, T, length};
+ghost use Rattle.lists.specs.Items.{items};
 ghost use Rattle.text.specs.Numbering.{names_limit, all_different, JoiningIsLawful, NumbersArePlaces};
 
 use crate::names::Name;
@@ -15,8 +16,8 @@ pub const NAMES_LIMIT: usize = 64;
 #[derive(Clone, Copy, Debug, PartialEq, Eq)]
 pub struct Names {
     list: FixedList<Name, NAMES_LIMIT>,
-    ghost within: { length list ≤ names_limit },
-    ghost apart: { T (all_different list) },
+    ghost within: { length (items list) ≤ names_limit },
+    ghost apart: { T (all_different (items list)) },
 }
 
 // Old names keep their numbers when others join.

@@ -4,9 +4,13 @@ ghost use Rattle.std.specs.Option.{option_map};
 ghost use Rattle.contents.specs.Labels.{label_names};
 ghost use Rattle.contents.specs.Labelled.{labelled};
 
-use super::Label;
+use super::{LABEL_LIMIT, Label};
 use lists::FixedList;
 use text::names::Name;
+use text::words::WORD_LIMIT;
+
+// The most bytes of a label: as many names as it may have, each as long as it may be, and what joins them.
+const MOST_BYTES: usize = LABEL_LIMIT * (WORD_LIMIT + 1) - 1;
 
 impl Label {
     // The names in order.
@@ -24,6 +28,10 @@ pub fn read_label(label: &[u8]) -> Option<Label>
     let mut names = FixedList::new();
     if label == b"i".as_slice() {
         return Some(Label { names });
+    }
+    // What is longer is not lawful, whatever its pieces are, and is not read.
+    if label.len() > MOST_BYTES {
+        return None;
     }
     for piece in label.split(|b| *b == b';') {
         names.push(Name::new(piece)?).ok()?;

@@ -1,16 +1,15 @@
-use Rattle.std.proofs.Common.{drop, rules}
-use Rattle.layouts.proofs.Digits.{digits_is, worth_cut}
+use Rattle.std.proofs.Common.{◌≡◌, ◌≤◌, min, length, drop, ap, ◌∙◌, arith, rules, length-take}
+use Rattle.layouts.specs.Numbers.{digits}
+use Rattle.layouts.proofs.Digits.{digits_few, worth_cut}
 use Rattle.layouts.proofs.number.read_number.Goals as goal
 
-pub returns-then-digits-eq0 : goal.returns-then-digits-eq0
-returns-then-digits-eq0 c = let e = digits_is (drop c.args.at c.args.text.now) in search rules
-
-pub returns-then-digits-gt-MOST_DIGITS : goal.returns-then-digits-gt-MOST_DIGITS
-returns-then-digits-gt-MOST_DIGITS c = let e = digits_is (drop c.args.at c.args.text.now) in search rules
+pub slice_bounds-worth_of-end : goal.slice_bounds-worth_of-end
+slice_bounds-worth_of-end c = omega (arith, c.count_few_digits-digits.ensures, digits_few c.rest_from-rest.result.now, length-take c.count_few_digits-digits.result c.rest_from-rest.result.now)
 
 pub returns : goal.returns
 returns c =
     let s = drop c.args.at c.args.text.now in
-    let e = digits_is s in
+    let some = c.count_few_digits-digits.ensures ∙ ap (λ xs. min 5 (digits xs)) c.rest_from-rest.ensures in
+    let few : c.count_few_digits-digits.result ≡ digits s = omega (arith, some, c.if-digits-gt-MOST_DIGITS.false) in
     let w = worth_cut s 0 in
     search rules

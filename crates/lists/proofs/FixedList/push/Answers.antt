@@ -4,4 +4,4 @@ use Rattle.lists.proofs.FixedList.push.Goals as goal
 
 pub invariant_of-self : goal.invariant_of-self
 invariant_of-self g c =
-    one_more _ _ _ _ c.self.invariant c.args.x (omega (arith, c.self.invariant.within, c.if-self.false))
+    record { filled = one_more _ _ _ _ c.args.self.now.filled c.args.x (omega (arith, c.args.self.now.filled.within, c.if-self.false)) }

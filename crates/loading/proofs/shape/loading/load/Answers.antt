@@ -6,8 +6,15 @@ use Rattle.text.specs.Held.{held}
 use Rattle.label_file.specs.LabelPart.{masks, labels_at}
 use Rattle.label_file.specs.Found.{Changed}
 use Rattle.transition_file.specs.TransitionPart.{body}
+use Rattle.loading.proofs.Facts.{told, states_few, starts}
 use Rattle.loading.proofs.Assembled.{loaded_all, fits_records, fits_sets, left, leaves}
 use Rattle.loading.proofs.shape.loading.load.Goals as goal
+
+pub of-requires-2-clause-few : goal.of-requires-2-clause-few
+of-requires-2-clause-few c = states_few _ (told c.args.files.transitions.now (held c.args.vocabulary.now.events) _ c.in_ok-read.ensures.0).fit
+
+pub of-requires-2-clause-starts : goal.of-requires-2-clause-starts
+of-requires-2-clause-starts c = starts _ (told c.args.files.transitions.now (held c.args.vocabulary.now.events) _ c.in_ok-read.ensures.0).fit
 
 pub returns : goal.returns
 returns c =
