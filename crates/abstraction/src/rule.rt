@@ -1,10 +1,10 @@
 ghost use Rattle.std.specs.Prelude.{◌≡◌, ◌^◌, ◌<◌};
 ghost use Rattle.systems.specs.Limits.{max_events};
+ghost use Rattle.systems.specs.Meaning.{member};
 ghost use Rattle.abstraction.specs.Abstracted.{with_shown};
 ghost use Rattle.abstraction.specs.Rules.{blank};
 
 use lists::Blank;
-use systems::sets::has;
 
 // A rule: a move that has the event `seen` shows the event `shown`.
 #[derive(Clone, Copy, Debug, Default, PartialEq, Eq)]
@@ -20,6 +20,14 @@ impl Blank for Rule {
     fn blank() -> Rule {
         Rule::default()
     }
+}
+
+// Whether the event, which is below 64, is in the set. Where that is not known, `systems::sets::has` asks it too, and a sheet takes half as long again.
+fn has(set: u64, event: u8) -> bool
+    requires { event < max_events }
+    ensures { result ≡ member set event }
+{
+    (set >> event) % 2 == 1
 }
 
 // The set of one event, as `bit_of` makes that of a name's place.
