@@ -43,7 +43,7 @@ returns-in_err-ok c =
     (rw n so_far) (rw n turn.0) (rw n turn.1) full))
 
 pub returns-then-label-gt-MOST_BYTES : goal.returns-then-label-gt-MOST_BYTES
-returns-then-label-gt-MOST_BYTES c = sym (bytes_too_many c.args.label.now (not_i c.args.label.now _ c.as_slice.ensures c.if-eq.ensures) c.if-label-gt-MOST_BYTES.true)
+returns-then-label-gt-MOST_BYTES c = sym (bytes_too_many c.args.label.now (not_i c.args.label.now _ c.as_slice.ensures c.if-eq.ensures) (search rules))
 
 pub returns : goal.returns
 returns c =
